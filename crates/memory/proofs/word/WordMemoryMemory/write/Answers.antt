@@ -1,0 +1,6 @@
+use borrow.Author.Needs.{needs}
+use Rattle.std.proofs.shelf.Lists.{set-past}
+use Rattle.memory.proofs.word.WordMemoryMemory.write.Needs as need
+
+pub returns-then-cell-length : need.returns-then-cell-length
+returns-then-cell-length c = search (needs, set-past)
