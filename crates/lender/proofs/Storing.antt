@@ -90,8 +90,8 @@ module _ (l r l′ r′ : List ℕ) (cell word : ℕ) (n : length (front l′) �
       cond-both (ltb cell (length (front l))) r (cond (ltb cell 65536) (stored r (cell - length (front l)) word) r) P
       (λ p. in-first (ltb-true cell (length (front l)) p))
       (λ p. cond-both (ltb cell 65536) (stored r (cell - length (front l)) word) r P
-        (λ q. in-second (ltb-false cell (length (front l)) p) (ltb-true cell 65536 q))
-        (λ q. in-neither (ltb-false cell (length (front l)) p) (ltb-false cell 65536 q)))
+      (λ q. in-second (ltb-false cell (length (front l)) p) (ltb-true cell 65536 q))
+      (λ q. in-neither (ltb-false cell (length (front l)) p) (ltb-false cell 65536 q)))
 
 -- the same from what the contract of the joined memory says
 pub stored-joined :

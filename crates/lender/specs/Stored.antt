@@ -14,8 +14,8 @@ stored ws cell word = cond (ltb cell (length (front ws))) (set ws cell word) ws
 -- the joined row stops at 65,536 cells
 abbrev pub stored-second : List ℕ → List ℕ → ℕ → ℕ → List ℕ
 stored-second first second cell word =
-  cond (ltb cell (length (front first))) second
-  (cond (ltb cell 65536) (stored second (cell - length (front first)) word) second)
+    cond (ltb cell (length (front first))) second
+    (cond (ltb cell 65536) (stored second (cell - length (front first)) word) second)
 
 -- a row with 0 in every cell
 abbrev pub wiped : List ℕ → List ℕ
