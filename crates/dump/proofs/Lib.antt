@@ -1,0 +1,4 @@
+pub mod Arguments
+pub mod Rows
+pub mod Standing
+pub mod Texts
