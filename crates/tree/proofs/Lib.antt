@@ -1,0 +1,16 @@
+pub mod Walks
+pub mod Rows
+pub mod Frames
+pub mod Splitting
+pub mod Rewriting
+pub mod Storing
+pub mod Posting
+pub mod Rising
+pub mod Ranks
+pub mod Starting
+pub mod Making
+pub mod Releases
+pub mod Seats
+pub mod Fitting
+pub mod Words
+pub mod Stands
