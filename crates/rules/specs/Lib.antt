@@ -1,0 +1,15 @@
+pub mod Refusals
+pub mod Reports
+pub mod Cells
+pub mod Nodes
+pub mod Seats
+pub mod Steps
+pub mod State
+pub mod Calls
+pub mod Histories
+pub mod Events
+pub mod PlainMap
+pub mod Latches
+pub mod Laws
+pub mod Runs
+pub mod Examples
