@@ -17,14 +17,14 @@ rows-of cells = cut ((length cells + 31) / 32) cells
 
 abbrev pub all-zero : List ℕ → Bool
 all-zero [] = true
-all-zero (word ∷ words) = eqb word 0 && all-zero words
+all-zero (word ∷ row) = eqb word 0 && all-zero row
 
--- a line stands for cells from `first` on: so many that are all 0, or a row with its words
+-- a line stands for the cells from `first` on: for n that are 0, or for a row
 pub data Line : Type 0 where
-  zeros : ℕ → ℕ → Line
-  words : ℕ → List ℕ → Line
+  zeros : (first n : ℕ) → Line
+  words : (first : ℕ) (row : List ℕ) → Line
 
--- a run of zeros before lines becomes one with the run that they begin with
+-- n zeros before lines; a run of zeros that the lines begin with is joined to them
 abbrev pub zeros-before : ℕ → ℕ → List Line → List Line
 zeros-before first n [] = zeros first n ∷ []
 zeros-before first n (zeros next m ∷ lines) = zeros first (n + m) ∷ lines
@@ -39,13 +39,14 @@ lines-from first (row ∷ rows) =
 abbrev pub lines-of : List ℕ → List Line
 lines-of cells = lines-from 0 (rows-of cells)
 
--- no run of zeros comes first
+-- the lines do not begin with a run of zeros
 abbrev pub Worded : List Line → Type 0
 Worded [] = Unit {0}
 Worded (zeros first n ∷ lines) = ⊥
 Worded (words first row ∷ lines) = Unit {0}
 
--- lines stand for the cells from `first` on: each line for the next cells, a run of zeros for as many as there are, a row for at most 32 that are not all 0
+-- The lines stand for the cells from `first` on: each for the next of them, and all of them together for every cell.
+-- No run of zeros meets another, and a row has at most 32 cells that are not all 0
 abbrev pub StandFor : ℕ → List Line → List ℕ → Type 0
 StandFor first [] cells = cells ≡ []
 StandFor first (zeros at n ∷ lines) cells =

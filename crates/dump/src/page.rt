@@ -8,7 +8,7 @@ ghost use Rattle.std.specs.Holes.{between};
 ghost use Rattle.std.specs.Of.String.{string-bytes};
 ghost use Rattle.std.specs.Vec.{made};
 ghost use Rattle.std.specs.declared.option.Option.the-variants.{Some};
-ghost use Rattle.memory.specs.Bytes.{width-of, cells-of};
+ghost use Rattle.memory.specs.Bytes.{cells-of};
 ghost use Rattle.dump.specs.Lines.{all-zero, lines-of, StandFor};
 ghost use Rattle.dump.specs.Page.{plural-of, unless-none, head-text, span-text, zeros-text, row-text, lines-text, left-text, image-text};
 use memory::ByteMemory;

@@ -18,7 +18,7 @@ pub struct Request {
 }
 
 /// Why a command line is refused.
-#[derive(Clone, Copy, Debug, PartialEq)]
+#[derive(Clone, Copy, Debug)]
 pub enum Usage {
     /// There is no argument.
     NoWidth,
@@ -90,7 +90,7 @@ mod tests {
         check(matches!(width_from("4"), Ok(Width::Four)))?;
         check(matches!(width_from("8"), Ok(Width::Eight)))?;
         for text in ["", "3", "02", "+2", "2 ", "two"] {
-            check_eq(width_from(text).err(), Some(Usage::StrangeWidth)).note(text)?;
+            check(matches!(width_from(text), Err(Usage::StrangeWidth))).note(text)?;
         }
         Ok(())
     }
