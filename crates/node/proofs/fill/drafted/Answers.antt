@@ -1,0 +1,6 @@
+use borrow.Author.Needs.{needs}
+use Rattle.node.proofs.Halves.{take-min}
+use Rattle.node.proofs.fill.drafted.Needs as need
+
+pub returns : need.returns
+returns c = search (needs, take-min)
