@@ -1,4 +1,5 @@
 pub mod Arguments
+pub mod Listing
 pub mod Rows
 pub mod Standing
 pub mod Texts

@@ -107,9 +107,12 @@ counted : (width : Width) (bytes : List ℕ) → length (cells-of width bytes) �
 counted width bytes = length-words (width-of width) (count-of width bytes) bytes
 
 -- the memory over an image has the image's width and bytes, w and bs
+pub cells-counted : (width w : Width) (bytes bs : List ℕ) (count : ℕ) → w ≡ width → bs ≡ bytes → count ≡ length (cells-of w bs) → count ≡ count-of width bytes
+cells-counted width w bytes bs count same-width same-bytes c = c ∙ (λ i. length (cells-of (same-width i) (same-bytes i))) ∙ counted width bytes
+
 module _ (width w : Width) (bytes bs : List ℕ) (count each : ℕ) (same-width : w ≡ width) (same-bytes : bs ≡ bytes) (c : count ≡ length (cells-of w bs)) (e : each ≡ width-of width) where
   number : count ≡ count-of width bytes
-  number = c ∙ (λ i. length (cells-of (same-width i) (same-bytes i))) ∙ counted width bytes
+  number = cells-counted width w bytes bs count same-width same-bytes c
 
   pub cells-take : count * each ≤ length bytes
   cells-take = rw (number, e) (cells-fit width bytes)

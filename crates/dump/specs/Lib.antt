@@ -1,3 +1,5 @@
 pub mod Asking
 pub mod Lines
 pub mod Page
+pub mod Nodes
+pub mod Troubles

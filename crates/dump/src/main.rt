@@ -1,8 +1,11 @@
-//! Prints a RAM image, read on standard input, as rows of words.
+//! Prints a RAM image, read on standard input, as rows of words, or as the nodes of an index.
 
+mod nodes;
 mod page;
 mod request;
 
+use nodes::TroubleError;
+use nodes::index_text;
 use page::image_text;
 use request::Request;
 use request::UsageError;
@@ -16,7 +19,11 @@ fn run(rt: &LibcRuntime) -> Result<(), AnyError> {
     let request = Request::from_args(args.as_slice())?;
     let mut bytes = Vec::new(heap);
     rt.stdin().read_to_end(&mut bytes)?;
-    let text = image_text(heap, bytes.as_mut_slice(), request.width)?;
+    let image = bytes.as_mut_slice();
+    let text = match request.nodes {
+        None => image_text(heap, image, request.width)?,
+        Some(count) => index_text(heap, image, request.width, count)?,
+    };
     rt.print(text)?;
     Ok(())
 }

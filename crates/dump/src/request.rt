@@ -5,7 +5,7 @@ ghost use mathlib.Core.Path.{_≡_};
 ghost use lib.ListN.{length, getD};
 ghost use Rattle.std.specs.Of.String.{string-bytes};
 ghost use Rattle.std.specs.declared.option.Option.the-variants.{Some};
-ghost use Rattle.dump.specs.Asking.{width-named, request-of, usage-text};
+ghost use Rattle.dump.specs.Asking.{width-named, Names-count, Asks-nodes, Asked, usage-text};
 use memory::Width;
 use std::error::Error;
 use std::fmt;
@@ -15,6 +15,8 @@ use std::fmt;
 pub struct Request {
     /// How many bytes a cell of the image has.
     pub width: Width,
+    /// How many nodes of an index to print, or none for rows of cells.
+    pub nodes: Option<u64>,
 }
 
 /// Why a command line is refused.
@@ -22,8 +24,10 @@ pub struct Request {
 pub enum Usage {
     /// There is no argument.
     NoWidth,
-    /// The argument is no cell width.
+    /// The first argument is no cell width.
     StrangeWidth,
+    /// The second argument is no number.
+    StrangeCount,
     /// There are further arguments.
     TooMany,
 }
@@ -36,7 +40,10 @@ impl Usage {
         match self {
             Usage::NoWidth => "the cell width is missing: 2, 4 or 8",
             Usage::StrangeWidth => "the cell width must be 2, 4 or 8",
-            Usage::TooMany => "one argument is expected: the cell width",
+            Usage::StrangeCount => "the node count must be a decimal number below 2^64",
+            Usage::TooMany => {
+                "two arguments are expected at most: the cell width and the node count"
+            }
         }
     }
 }
@@ -63,17 +70,41 @@ pub fn width_from(text: &str) -> Result<Width, Usage>
     }
 }
 
+/// The node count that a text names.
+pub fn count_from(text: &str) -> Result<u64, Usage>
+    ensures { λ r. ⌜ Names-count (now (text .entry)) r ⌝ }
+{
+    match text.parse::<u64>() {
+        Ok(count) => Ok(count),
+        Err(_) => Err(Usage::StrangeCount),
+    }
+}
+
+/// A width and a node count as a request.
+fn nodes_from(width: &str, count: &str) -> Result<Request, Usage>
+    ensures { λ r. ⌜ Asks-nodes (now (width .entry)) (now (count .entry)) r ⌝ }
+{
+    let nodes = count_from(count);
+    let width = width_from(width)?;
+    let count = nodes?;
+    Ok(Request {
+        width,
+        nodes: Some(count),
+    })
+}
+
 impl Request {
     /// Reads the arguments that follow the program's name.
     pub fn from_args(args: &[String]) -> Result<Request, Usage>
-        ensures { λ r. ⌜ r ≡ request-of (length (now (args .entry))) (getD (map string-bytes (now (args .entry))) 0 []) ⌝ }
+        ensures { λ r. ⌜ Asked (length (now (args .entry))) (getD (map string-bytes (now (args .entry))) 0 []) (getD (map string-bytes (now (args .entry))) 1 []) r ⌝ }
     {
         match args {
             [] => Err(Usage::NoWidth),
-            [text] => {
-                let width = width_from(text.as_str())?;
-                Ok(Request { width })
+            [width] => {
+                let width = width_from(width.as_str())?;
+                Ok(Request { width, nodes: None })
             }
+            [width, count] => nodes_from(width.as_str(), count.as_str()),
             _ => Err(Usage::TooMany),
         }
     }
@@ -96,16 +127,37 @@ mod tests {
     }
 
     #[test]
-    fn one_argument_is_taken(rt: LibcRuntime) -> Result<(), Fail> {
+    fn one_argument_or_two(rt: LibcRuntime) -> Result<(), Fail> {
         let heap = rt.alloc();
         let mut args = Vec::new(heap);
         check(matches!(Request::from_args(args.as_slice()), Err(Usage::NoWidth)))?;
         args.push(String::from_str(heap, "4")?)?;
         check(matches!(
             Request::from_args(args.as_slice()),
-            Ok(Request { width: Width::Four })
+            Ok(Request {
+                width: Width::Four,
+                nodes: None
+            })
         ))?;
-        args.push(String::from_str(heap, "4")?)?;
+        args.push(String::from_str(heap, "12")?)?;
+        check(matches!(
+            Request::from_args(args.as_slice()),
+            Ok(Request {
+                width: Width::Four,
+                nodes: Some(12)
+            })
+        ))?;
+        args.push(String::from_str(heap, "1")?)?;
         check(matches!(Request::from_args(args.as_slice()), Err(Usage::TooMany)))
+    }
+
+    #[test]
+    fn a_count_is_a_number() -> Result<(), Fail> {
+        check(matches!(count_from("0"), Ok(0)))?;
+        check(matches!(count_from("18446744073709551615"), Ok(u64::MAX)))?;
+        for text in ["", "-1", "two", "18446744073709551616"] {
+            check(matches!(count_from(text), Err(Usage::StrangeCount))).note(text)?;
+        }
+        Ok(())
     }
 }

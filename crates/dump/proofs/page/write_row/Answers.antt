@@ -8,4 +8,5 @@ loop-cell-again g c =
 pub returns : need.returns
 returns g c =
     row-whole _ _ _ _ _ (g .M·Memory .cells (c .args .memory .now)) (c .args .first) (c .loop-cell .cell) (c .args .end) (c .pre .0) (c .pre .1) (c .loop-cell-test .left) (c .in-Continue-write-span .ensures tt) (c .loop-cell .inv) (c .writeln .ensures .bytes)
+
 -- x
