@@ -1,12 +1,12 @@
 -- An access that no memory can make is refused.
-use Prim.Native.Nat.{ℕ, _<_, _≤_}
-use mathlib.Core.Path.{_≡_, refl, ap, _∙_}
-use mathlib.Core.Bool.{cond}
+use Prim.Native.Nat.{ℕ, _≤_}
+use mathlib.Core.Path.{_≡_, refl, sym, ap, _∙_}
+use mathlib.Core.Bool.{Bool, true, false, cond}
 use mathlib.Core.List.{List}
 use native.Mathlib.Omega.{arith}
-use lib.Dec.{ltb}
+use lib.Dec.{ltb, eqb}
 use lib.ListN.{length}
-use Rattle.std.proofs.shelf.Tests.{le-ltb, lt-ltb, ne-eqb}
+use Rattle.std.proofs.shelf.Tests.{le-ltb}
 use Rattle.std.specs.declared.result.Result.{Result}
 use Rattle.std.specs.declared.result.Result.the-variants.{Ok, Err}
 use Rattle.memory.specs.declared.fault.Fault.{Fault}
@@ -21,6 +21,7 @@ use Rattle.rules.specs.declared.refusal.Refusal.the-variants as refusal
 use Rattle.rules.specs.declared.seat.Phase.{Phase}
 use Rattle.rules.specs.declared.seat.Phase.the-variants as phase
 use Rattle.index.specs.Reach.{Beyond}
+use Rattle.index.specs.Views.{placed}
 
 module _ (cs : List ℕ) (top : ℕ) (short : length cs ≤ 65536) where
   past : {A : Type 0} (c : ℕ) (x : Result A Fault) → 65536 ≤ c → cond (ltb c (length cs)) x (Err NoCell) ≡ Err NoCell
@@ -44,11 +45,21 @@ due-in-busy phase.Release a h = refl
 due-in-busy phase.Undo a h = refl
 due-in-busy (phase.End o) a h = refl
 
-module _ (st : State) (i : ℕ) (formatted : st .fan ≡ 0 → ⊥) (seated : i < 8) (busy : seat-at (st .seats) i .phase ≡ phase.Idle → ⊥) where
-  pub due-busy : due st i ≡ Ok (access-of (extent-of st) (seat-at (st .seats) i))
-  due-busy = rw (ne-eqb (st .fan) 0 formatted, lt-ltb i 8 seated) (due-in-busy _ _ busy)
+placed-where : (a b : Bool) (i j : ℕ) → Ok j ≡ cond a (Err refusal.Unformatted) (cond b (Ok i) (Err refusal.NoSeat)) → (a ≡ false) × (b ≡ true) × (j ≡ i)
+placed-where true b i j e = let z : _≡_ {A = ℕ} 0 1 = cc in absurd (omega arith)
+placed-where false true i j e = (refl, refl, cc)
+placed-where false false i j e = let z : _≡_ {A = ℕ} 0 1 = cc in absurd (omega arith)
 
-  pub step-beyond : length (st .cells) ≤ 65536 → Beyond (access-of (extent-of st) (seat-at (st .seats) i)) → step st i ≡ (Err refusal.NoCell, st)
+module _ (st : State) (i j : ℕ) (at : Ok j ≡ placed st i) (busy : seat-at (st .seats) j .phase ≡ phase.Idle → ⊥) where
+  due-busy : due st i ≡ Ok (access-of (extent-of st) (seat-at (st .seats) j))
+  due-busy =
+      let p = placed-where (eqb (st .fan) 0) (ltb i 8) i j at in
+      let f : eqb (st .fan) 0 ≡ false = p .0 in
+      let l : ltb i 8 ≡ true = p .1 in
+      let same : i ≡ j = sym (p .2) in
+      rw (f, l, same) (due-in-busy _ _ busy)
+
+  pub step-beyond : length (st .cells) ≤ 65536 → Beyond (access-of (extent-of st) (seat-at (st .seats) j)) → step st i ≡ (Err refusal.NoCell, st)
   step-beyond short h =
-      let a = access-of (extent-of st) (seat-at (st .seats) i) in
+      let a = access-of (extent-of st) (seat-at (st .seats) j) in
       ap (step-by st i) due-busy ∙ ap (answered-by st i a) (beyond-refused (st .cells) (st .top) short a h)

@@ -11,7 +11,7 @@ ghost use Rattle.rules.specs.declared.report.Report.the-variants.{GoneOn};
 ghost use Rattle.rules.specs.Histories.{BeginFind, BeginPut, Step, Abandon};
 ghost use Rattle.rules.specs.declared.seat.Operation.the-variants.{Find, Put};
 ghost use Rattle.index.specs.Runs.{Starts, LeadsOn, StaysLawful};
-ghost use Rattle.index.specs.Views.{view, Fresh};
+ghost use Rattle.index.specs.Views.{view, placed, Fresh};
 use super::access::access;
 use super::access::clear;
 use super::access::extent;
@@ -126,13 +126,7 @@ impl<M: Memory, O: Order> Index<M, O> {
         ensures seated { λ r. ⌜ made r (λ _. seat < 8) ⌝ }
         ensures rule { λ r. ⌜ Cases r (λ _. begin-rule (view M·Memory O·Order (now (self .entry))) seat key operation ≡ (Ok (GoneOn 0), with-seat (view M·Memory O·Order (now (self .entry))) seat (starting-out (seat-at (now (self .entry) .seats) seat) key operation))) (λ f. begin-rule (view M·Memory O·Order (now (self .entry))) seat key operation ≡ (Err f, view M·Memory O·Order (now (self .entry)))) ⌝ }
     {
-        if self.fan == 0 {
-            return Err(Refusal::Unformatted);
-        }
-        if seat >= 8 {
-            return Err(Refusal::NoSeat);
-        }
-        let Phase::Idle = self.seats[seat as usize].phase else {
+        let Phase::Idle = self.seats[self.place(seat)?].phase else {
             return Err(Refusal::Busy);
         };
         let top = self.memory.top_word();
@@ -178,17 +172,24 @@ impl<M: Memory, O: Order> Index<M, O> {
     fn due(&self, seat: u64) -> Result<Access, Refusal>
         ensures { λ r. ⌜ Cases r (λ a. due-rule (view M·Memory O·Order (now (self .entry))) seat ≡ Ok a) (λ f. step-rule (view M·Memory O·Order (now (self .entry))) seat ≡ (Err f, view M·Memory O·Order (now (self .entry)))) ⌝ }
     {
+        let lent = &self.seats[self.place(seat)?];
+        match lent.phase {
+            Phase::Idle => Err(Refusal::Idle),
+            _ => Ok(access(lent, extent(&self.memory, self.fan))?),
+        }
+    }
+
+    /// Where a seat stands in the table, if the index is formatted and has the seat.
+    fn place(&self, seat: u64) -> Result<usize, Refusal>
+        ensures { λ r. ⌜ r ≡ placed (view M·Memory O·Order (now (self .entry))) seat ⌝ }
+    {
         if self.fan == 0 {
             return Err(Refusal::Unformatted);
         }
         if seat >= 8 {
             return Err(Refusal::NoSeat);
         }
-        let lent = &self.seats[seat as usize];
-        match lent.phase {
-            Phase::Idle => Err(Refusal::Idle),
-            _ => Ok(access(lent, extent(&self.memory, self.fan))?),
-        }
+        Ok(seat as usize)
     }
 
     /// Frees a seat that holds no latch.
@@ -218,13 +219,7 @@ impl<M: Memory, O: Order> Index<M, O> {
         ensures seated { λ r. ⌜ made r (λ _. seat < 8) ⌝ }
         ensures rule { λ r. ⌜ abandon-rule (view M·Memory O·Order (now (self .entry))) seat ≡ abandoned (view M·Memory O·Order (now (self .entry))) seat r ⌝ }
     {
-        if self.fan == 0 {
-            return Err(Refusal::Unformatted);
-        }
-        if seat >= 8 {
-            return Err(Refusal::NoSeat);
-        }
-        abandon_report(&self.seats[seat as usize])
+        abandon_report(&self.seats[self.place(seat)?])
     }
 }
 
