@@ -1,5 +1,5 @@
 -- A call that does what the rules say: its run leads on and stays lawful, and a refusal leaves the state.
-use mathlib.Core.Path.{_≡_, refl, sym, ap, subst}
+use mathlib.Core.Path.{_≡_, refl, sym, subst}
 use mathlib.Core.Bool.{Bool, true, false, cond, _||_}
 use mathlib.Core.List.{[], _∷_}
 use Prim.Native.Nat.{ℕ}
@@ -12,8 +12,7 @@ use Rattle.memory.specs.Meaning.{Bounded}
 use Rattle.order.specs.Laws.{Ordered}
 use Rattle.rules.proofs.Runs.{runs-lawful}
 use Rattle.rules.specs.Calls.{format}
-use Rattle.rules.specs.Histories.{Call, History, act}
-use Rattle.rules.specs.Laws.{Lawful}
+use Rattle.rules.specs.Histories.{Call, act}
 use Rattle.rules.specs.PlainMap.{empty-map}
 use Rattle.rules.specs.Runs.{Reached, formatted, more}
 use Rattle.rules.specs.State.{State}

@@ -5,8 +5,7 @@ use mathlib.Core.Bool.{Bool, true, false, cond}
 use mathlib.Core.List.{List}
 use lib.Dec.{ltb, eqb}
 use lib.ListN.{length, getD, set, length-set}
-use Rattle.std.specs.declared.result.Result.{Result}
-use Rattle.std.specs.declared.result.Result.the-variants.{Ok, Err}
+use Rattle.std.specs.declared.result.Result.the-variants.{Ok}
 use Rattle.memory.specs.Row.{written}
 use Rattle.rules.specs.Calls.{due, step, step-by, answered-by, moved}
 use Rattle.rules.specs.Cells.{answers, leaves}
@@ -14,8 +13,6 @@ use Rattle.rules.specs.State.{State, seat-at, extent-of}
 use Rattle.rules.specs.Steps.{advance}
 use Rattle.rules.specs.declared.access.Access.{Access}
 use Rattle.rules.specs.declared.access.Access.the-variants.{None, Read, Write, Swap}
-use Rattle.rules.specs.declared.access.Extent.{Extent}
-use Rattle.rules.specs.declared.refusal.Refusal.{Refusal}
 use Rattle.rules.specs.declared.report.Report.{Report}
 use Rattle.rules.specs.declared.seat.Seat.{Seat}
 

@@ -1,5 +1,5 @@
 -- The accesses that no memory can make: to a cell past the longest row.
-use Prim.Native.Nat.{ℕ, _≤_}
+use Prim.Native.Nat.{_≤_}
 use Rattle.rules.specs.declared.access.Access.{Access}
 use Rattle.rules.specs.declared.access.Access.the-variants.{None, Read, Write, Swap}
 

@@ -1,14 +1,18 @@
 //! The index and its calls.
+//!
+//! Each public call says what the step rules say of it (`rule`), that a refusal leaves all as it was (`refused`), that
+//! what lies outside the memory's row stays (`outside`), where it leads every run that led here (`reached`), and that
+//! every such run stays lawful (`lawful`).
 ghost use mathlib.Core.Path.{_≡_};
 ghost use Prim.Native.Nat.{_<_};
 ghost use Rattle.std.specs.Results.{Cases};
 ghost use Rattle.std.specs.Vec.{made, refused};
 ghost use Rattle.std.specs.declared.result.Result.the-variants.{Ok, Err};
-ghost use Rattle.rules.specs.Calls.{due as due-rule, step as step-rule, begin as begin-rule, abandon as abandon-rule, abandoned, format as format-rule};
+ghost use Rattle.rules.specs.Calls.{format as format-rule, begin as begin-rule, due as due-rule, step as step-rule, abandon as abandon-rule, abandoned};
+ghost use Rattle.rules.specs.Histories.{BeginFind, BeginPut, Step, Abandon};
 ghost use Rattle.rules.specs.Seats.{starting-out};
 ghost use Rattle.rules.specs.State.{seat-at, with-seat};
 ghost use Rattle.rules.specs.declared.report.Report.the-variants.{GoneOn};
-ghost use Rattle.rules.specs.Histories.{BeginFind, BeginPut, Step, Abandon};
 ghost use Rattle.rules.specs.declared.seat.Operation.the-variants.{Find, Put};
 ghost use Rattle.index.specs.Runs.{Starts, LeadsOn, StaysLawful};
 ghost use Rattle.index.specs.Views.{view, placed, Fresh};
@@ -67,7 +71,7 @@ impl<M: Memory, O: Order> Index<M, O> {
         self.start(fan)
     }
 
-    /// Formats, by the rules alone.
+    /// The format itself: all that it does is in the rules.
     fn start(&mut self, fan: u64) -> Result<Report, Refusal>
         ensures rule { λ r. ⌜ (r, view M·Memory O·Order (now (self .exit))) ≡ format-rule (view M·Memory O·Order (now (self .entry))) fan ⌝ }
         ensures outside { λ _. ⌜ M·Memory .outside (now (self .exit) .memory) ≡ M·Memory .outside (now (self .entry) .memory) ⌝ }
@@ -150,7 +154,7 @@ impl<M: Memory, O: Order> Index<M, O> {
         self.advance(seat)
     }
 
-    /// Makes the next step of a seat, by the rules alone.
+    /// The step itself: the one access, and how the seat goes on from its word.
     fn advance(&mut self, seat: u64) -> Result<Report, Refusal>
         ensures rule { λ r. ⌜ (r, view M·Memory O·Order (now (self .exit))) ≡ step-rule (view M·Memory O·Order (now (self .entry))) seat ⌝ }
         ensures outside { λ _. ⌜ M·Memory .outside (now (self .exit) .memory) ≡ M·Memory .outside (now (self .entry) .memory) ⌝ }
@@ -203,7 +207,7 @@ impl<M: Memory, O: Order> Index<M, O> {
         self.free(seat)
     }
 
-    /// Frees a seat, by the rules alone.
+    /// The abandoning itself: only the seat's phase changes.
     fn free(&mut self, seat: u64) -> Result<Report, Refusal>
         ensures rule { λ r. ⌜ (r, view M·Memory O·Order (now (self .exit))) ≡ abandon-rule (view M·Memory O·Order (now (self .entry))) seat ⌝ }
         ensures outside { λ _. ⌜ M·Memory .outside (now (self .exit) .memory) ≡ M·Memory .outside (now (self .entry) .memory) ⌝ }

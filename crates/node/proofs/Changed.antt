@@ -1,17 +1,15 @@
 -- The entries after a change, one by one.
-use mathlib.Core.Path.{_≡_, sym, ap, _∙_}
+use mathlib.Core.Path.{_≡_, sym, _∙_}
 use mathlib.Core.List.{List}
 use Prim.Native.Nat.{ℕ, _+_, _-_, _<_, _≤_}
 use native.Mathlib.Omega.{arith}
 use lib.ListN.{length, getD, set, length-set}
 use lib.Seq.{getD-set-same, getD-set-other}
 use Rattle.std.proofs.shelf.Edits.{length-inserted, getD-inserted-below, getD-inserted-at, getD-inserted-above}
-use Rattle.std.specs.Holes.{inserted}
 use Rattle.rules.specs.declared.seat.Entry.{Entry}
 use Rattle.rules.specs.Nodes.{entry}
-use Rattle.node.specs.Changes.{changed, Within}
-use Rattle.node.specs.declared.change.Change.{Change}
-use Rattle.node.specs.declared.change.Change.the-variants.{Keep, Replace, Insert, Divide}
+use Rattle.node.specs.Changes.{changed}
+use Rattle.node.specs.declared.change.Change.the-variants.{Insert, Divide}
 
 module _ (es : List Entry) (at : ℕ) (e : Entry) (h : at ≤ length es) where
   pub insert-long : length es + 1 ≡ length (changed (Insert at e) es)

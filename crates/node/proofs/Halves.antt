@@ -1,17 +1,16 @@
 -- The words of no entry, and parts of a list by lengths that may pass its end.
-use mathlib.Core.Path.{_≡_, refl, sym, ap, _∙_}
+use mathlib.Core.Path.{_≡_, refl, sym, _∙_}
 use mathlib.Core.Bool.{Bool, true, false, cond}
 use mathlib.Core.Logic.{inl, inr}
-use mathlib.Core.List.{List, []}
-use Prim.Native.Nat.{ℕ, _-_, _/_, _%_, _<_, _≤_, min}
-use native.Mathlib.Nat.{min-eq-left, min-eq-right}
+use mathlib.Core.List.{List}
+use Prim.Native.Nat.{ℕ, _-_, _/_, _%_, _≤_, min}
 use native.Mathlib.Omega.{arith}
 use lib.Dec.{eqb}
 use lib.ListN.{length, getD, take, drop, length-drop, List·getD-eq-default, drop-of-length-le}
 use lib.Seq.{take-all}
 use Rattle.std.proofs.shelf.Tests.{cases-lt, ne-eqb, le-ltb}
 use Rattle.rules.specs.declared.seat.Entry.{Entry}
-use Rattle.rules.specs.Nodes.{entry, half, node-word}
+use Rattle.rules.specs.Nodes.{entry, node-word}
 
 zero-half : (b : Bool) → cond {A = ℕ} b 0 0 ≡ 0
 zero-half true = refl

@@ -1,5 +1,5 @@
 -- What a change makes of a node's entries.
-use Prim.Native.Nat.{ℕ, _<_, _≤_}
+use Prim.Native.Nat.{_<_, _≤_}
 use mathlib.Core.List.{List}
 use lib.ListN.{length, getD, set}
 use Rattle.std.specs.Holes.{inserted}

@@ -1,5 +1,5 @@
 use borrow.Author.Needs.{needs}
-use mathlib.Core.Path.{_≡_, sym, ap, _∙_}
+use mathlib.Core.Path.{_≡_, ap, _∙_}
 use Rattle.std.proofs.shelf.Results.{err-from-errBy}
 use Rattle.std.specs.declared.result.Result.the-variants.{Err}
 use Rattle.rules.specs.Cells.{answers}
