@@ -45,7 +45,7 @@ fn run(rt: &LibcRuntime) -> Result<(), AnyError> {
         return Err("the number of steps is missing".into());
     };
     let accepted = measured(text.parse::<u64>()?.min(PUT));
-    println!(rt, "{accepted:02} steps accepted")?;
+    println!(rt, "{accepted} steps accepted")?;
     Ok(())
 }
 
