@@ -43,7 +43,7 @@ impl fmt::Display for Plural as PluralDisplay {
 }
 
 /// Appends the line that tells how many cells there are and what they take.
-pub fn write_head(text: &mut String, cells: u64, bytes: u64, top: u64) -> fmt::Result
+pub(crate) fn write_head(text: &mut String, cells: u64, bytes: u64, top: u64) -> fmt::Result
     ensures { λ r. ⌜ made r (λ _. string-bytes (now (text .exit)) ≡ string-bytes (now (text .entry)) ++ head-text cells bytes top) ⌝ }
 {
     let s = Plural(cells);
@@ -98,7 +98,7 @@ fn write_run(text: &mut String, first: u64, end: u64) -> fmt::Result
 }
 
 /// The word of a cell of the row.
-pub fn word<M: Memory>(memory: &M, cell: u64) -> u64
+pub(crate) fn word<M: Memory>(memory: &M, cell: u64) -> u64
     requires { ⌜ cell < length (M·Memory .cells (now memory)) ⌝ }
     ensures { λ r. ⌜ r ≡ getD (M·Memory .cells (now (memory .entry))) cell 0 ⌝ }
 {

@@ -7,7 +7,7 @@ use rules::Refusal;
 use rules::Report;
 
 /// The number, node and word of an answer; a refusal has node and word 0.
-pub fn told(answer: Result<Report, Refusal>) -> (u64, u64, u64) {
+pub(crate) fn told(answer: Result<Report, Refusal>) -> (u64, u64, u64) {
     match answer {
         Ok(report) => (report.number(), report.node(), report.word()),
         Err(refusal) => (refusal.number(), 0, 0),
@@ -15,14 +15,18 @@ pub fn told(answer: Result<Report, Refusal>) -> (u64, u64, u64) {
 }
 
 /// The number of an answer.
-pub fn number(answer: Result<Report, Refusal>) -> u64 {
+pub(crate) fn number(answer: Result<Report, Refusal>) -> u64 {
     let (number, _, _) = told(answer);
     number
 }
 
 /// Steps a seat, at most `most` times, until its operation ends or a step is refused: the last answer's number and
 /// word, and how many steps were made.
-pub fn walk<M: Memory, O: Order>(index: &mut Index<M, O>, seat: u64, most: u64) -> (u64, u64, u64) {
+pub(crate) fn walk<M: Memory, O: Order>(
+    index: &mut Index<M, O>,
+    seat: u64,
+    most: u64,
+) -> (u64, u64, u64) {
     let mut last = (0, 0);
     for made in 0..most {
         let (number, _, word) = told(index.step(seat));
@@ -35,7 +39,11 @@ pub fn walk<M: Memory, O: Order>(index: &mut Index<M, O>, seat: u64, most: u64) 
 }
 
 /// Puts a pair from seat 0 to its end: the last answer's number and word, and the steps. A refused begin has no steps.
-pub fn put<M: Memory, O: Order>(index: &mut Index<M, O>, key: u64, value: u64) -> (u64, u64, u64) {
+pub(crate) fn put<M: Memory, O: Order>(
+    index: &mut Index<M, O>,
+    key: u64,
+    value: u64,
+) -> (u64, u64, u64) {
     match index.begin_put(0, key, value) {
         Ok(_) => walk(index, 0, 1000),
         Err(refusal) => (refusal.number(), 0, 0),
@@ -43,7 +51,7 @@ pub fn put<M: Memory, O: Order>(index: &mut Index<M, O>, key: u64, value: u64) -
 }
 
 /// Finds a key from seat 1 to its end, likewise.
-pub fn find<M: Memory, O: Order>(index: &mut Index<M, O>, key: u64) -> (u64, u64, u64) {
+pub(crate) fn find<M: Memory, O: Order>(index: &mut Index<M, O>, key: u64) -> (u64, u64, u64) {
     match index.begin_find(1, key) {
         Ok(_) => walk(index, 1, 1000),
         Err(refusal) => (refusal.number(), 0, 0),

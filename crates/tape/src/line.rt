@@ -20,7 +20,9 @@ pub struct Line {
     pub kind: u64,
     /// The number of the last report, refusal or fault; 0 if there was none.
     pub number: u64,
+    /// The node that the report tells.
     pub node: u64,
+    /// The value that the report tells.
     pub word: u64,
     /// How many steps were accepted; of a fault, the offset of its record.
     pub steps: u64,

@@ -141,7 +141,7 @@ pub fn play<M: Memory, O: Order>(
     ensures after { λ r. ⌜ made r (λ _. view M·Memory O·Order (now (index .exit)) ≡ play-rule (view M·Memory O·Order (now (index .entry))) (now (tape .entry)) .state) ⌝ }
     ensures refused { λ r. ⌜ refused r (λ _. view M·Memory O·Order (now (index .exit)) ≡ view M·Memory O·Order (now (index .entry))) ⌝ }
     ensures outside { λ _. ⌜ M·Memory .outside (now (index .exit) .memory) ≡ M·Memory .outside (now (index .entry) .memory) ⌝ }
-    ensures run { λ r. ⌜ made r (λ _. LeadsOn (now (tape .entry)) (view M·Memory O·Order (now (index .entry))) (view M·Memory O·Order (now (index .exit)))) ⌝ }
+    ensures reached { λ r. ⌜ made r (λ _. LeadsOn (now (tape .entry)) (view M·Memory O·Order (now (index .entry))) (view M·Memory O·Order (now (index .exit)))) ⌝ }
     ensures lawful { λ _. ⌜ StaysLawful (now (tape .entry)) (view M·Memory O·Order (now (index .entry))) ⌝ }
     ensures parts { λ r. ⌜ made r (λ v. InParts (now (tape .entry)) (view M·Memory O·Order (now (index .entry))) (vec-items v) (view M·Memory O·Order (now (index .exit)))) ⌝ }
     ensures fault { λ r. ⌜ made r (λ v. FaultKeeps (now (tape .entry)) (view M·Memory O·Order (now (index .entry))) (vec-items v) (view M·Memory O·Order (now (index .exit)))) ⌝ }

@@ -79,7 +79,7 @@ fn over_two_widths(heap: Global, scenario: &Scenario) -> Result<Tally, AllocErro
 }
 
 /// Runs a scenario: what it prints after its number.
-pub fn run_scenario(heap: Global, scenario: &Scenario) -> Result<String, AllocError> {
+pub(crate) fn run_scenario(heap: Global, scenario: &Scenario) -> Result<String, AllocError> {
     let tally = match scenario.memory {
         MemoryKind::Word => over_words(heap, scenario)?,
         MemoryKind::Byte2 => over_bytes(heap, scenario, Width::Two)?,

@@ -2,7 +2,7 @@
 
 /// What the index lies over.
 #[derive(Clone, Copy)]
-pub enum MemoryKind {
+pub(crate) enum MemoryKind {
     Word,
     Byte2,
     Byte4,
@@ -14,7 +14,7 @@ pub enum MemoryKind {
 
 /// In which order the keys are.
 #[derive(Clone, Copy)]
-pub enum OrderKind {
+pub(crate) enum OrderKind {
     Number,
     Lane,
     Label,
@@ -22,7 +22,7 @@ pub enum OrderKind {
 
 /// How the calls are drawn.
 #[derive(Clone, Copy)]
-pub enum Mode {
+pub(crate) enum Mode {
     /// Single calls, cut at any access.
     Mixed,
     /// One seat driven at a time.
@@ -35,7 +35,7 @@ pub enum Mode {
 
 /// A trial to run.
 #[derive(Clone, Copy)]
-pub struct Scenario {
+pub(crate) struct Scenario {
     pub memory: MemoryKind,
     pub order: OrderKind,
     pub fan: u64,
@@ -137,7 +137,7 @@ impl Mode {
 
 impl Scenario {
     /// The scenario of a line, if it is one.
-    pub fn from_line(line: &[u8]) -> Option<Scenario> {
+    pub(crate) fn from_line(line: &[u8]) -> Option<Scenario> {
         let mut words = Words { line, at: 0 };
         let memory = MemoryKind::named(words.next_word())?;
         let order = OrderKind::named(words.next_word())?;

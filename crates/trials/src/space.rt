@@ -4,7 +4,7 @@ use super::scenario::OrderKind;
 
 /// The keys that a trial draws from: so many, of an order, cut to the width of the top word.
 #[derive(Clone, Copy)]
-pub struct Space {
+pub(crate) struct Space {
     pub order: OrderKind,
     pub keys: u64,
     pub top: u64,
@@ -39,7 +39,7 @@ const ODD: [u64; 8] = [
 
 impl Space {
     /// The key of an index.
-    pub fn key(&self, index: u64) -> u64 {
+    pub(crate) fn key(&self, index: u64) -> u64 {
         let wide = match self.order {
             OrderKind::Number => index.wrapping_mul(0x9E37_79B9_7F4A_7C15),
             OrderKind::Lane => {
@@ -52,7 +52,7 @@ impl Space {
     }
 
     /// The key of a draw.
-    pub fn key_of(&self, draw: u64) -> u64 {
+    pub(crate) fn key_of(&self, draw: u64) -> u64 {
         if draw >> 58 == 0 {
             return ODD[((draw >> 55) & 7) as usize];
         }
@@ -60,7 +60,7 @@ impl Space {
     }
 
     /// The value of a draw.
-    pub fn value_of(&self, draw: u64) -> u64 {
+    pub(crate) fn value_of(&self, draw: u64) -> u64 {
         match draw >> 58 {
             0 => self.top.wrapping_add(1),
             1 => self.top,
@@ -70,7 +70,7 @@ impl Space {
 }
 
 /// The seat of a draw; now and then one that is none.
-pub fn seat_of(draw: u64) -> u64 {
+pub(crate) fn seat_of(draw: u64) -> u64 {
     let seat = (draw >> 16) & 7;
     if (draw >> 24) & 255 == 0 {
         seat + 8

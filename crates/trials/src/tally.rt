@@ -9,14 +9,14 @@ use std::fmt;
 
 /// How often each number was answered, and the digest of all answers.
 #[derive(Clone, Copy)]
-pub struct Tally {
+pub(crate) struct Tally {
     counts: [u64; 32],
     digest: Digest,
 }
 
 impl Tally {
     /// Of no call.
-    pub fn new() -> Tally {
+    pub(crate) fn new() -> Tally {
         Tally {
             counts: [0; 32],
             digest: Digest::new(),
@@ -24,7 +24,7 @@ impl Tally {
     }
 
     /// Takes one answer more, and tells its number.
-    pub fn note(&mut self, answer: Result<Report, Refusal>) -> u64 {
+    pub(crate) fn note(&mut self, answer: Result<Report, Refusal>) -> u64 {
         let (number, node, word) = match answer {
             Ok(report) => (report.number(), report.node(), report.word()),
             Err(refusal) => (refusal.number(), 0, 0),
@@ -40,12 +40,12 @@ impl Tally {
     }
 
     /// Takes the word of a cell into the digest.
-    pub fn note_cell(&mut self, word: u64) {
+    pub(crate) fn note_cell(&mut self, word: u64) {
         self.digest.add(word);
     }
 
     /// The counts that are not 0, and the digest, each after a space.
-    pub fn text(&self, heap: Global) -> Result<String, AllocError> {
+    pub(crate) fn text(&self, heap: Global) -> Result<String, AllocError> {
         let mut text = String::new(heap);
         match self.write(&mut text) {
             Ok(()) => Ok(text),

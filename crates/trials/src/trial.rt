@@ -136,7 +136,7 @@ impl<M: Memory, O: Order> Trial<M, O> {
 }
 
 /// Runs a scenario over a memory and in an order: what its calls answered, and the cells at the end.
-pub fn run_trial<M: Memory + Drop, O: Order + Drop>(
+pub(crate) fn run_trial<M: Memory + Drop, O: Order + Drop>(
     memory: M,
     order: O,
     scenario: &Scenario,
