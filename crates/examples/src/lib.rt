@@ -3,8 +3,10 @@
 #[cfg(test)]
 mod driving;
 #[cfg(test)]
-mod growth;
+mod everywhere;
 #[cfg(test)]
 mod refusals;
 #[cfg(test)]
-mod seats;
+mod runs;
+#[cfg(test)]
+mod wearing;
