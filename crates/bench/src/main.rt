@@ -1,3 +1,4 @@
+#![tactic(auto)]
 //! Makes one put on a leaf of twelve entries and stops after so many steps, which its argument says. Two runs that differ
 //! by one step differ by the instructions of that step; `bench/steps` measures them so.
 

@@ -1,3 +1,4 @@
+#![tactic(auto)]
 //! Prints a RAM image, read on standard input, as rows of words, or as the nodes of an index.
 
 mod nodes;

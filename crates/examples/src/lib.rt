@@ -1,3 +1,4 @@
+#![tactic(auto)]
 //! Worked examples, refusals and their precedence, executed over every kind of memory and every order.
 
 #[cfg(test)]

@@ -1,3 +1,4 @@
+#![tactic(auto)]
 //! A B+-tree index that eight seats work on, one memory access to a step.
 
 mod access;

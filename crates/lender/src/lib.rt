@@ -1,3 +1,4 @@
+#![tactic(auto)]
 //! What lenders know of their own numbers and bytes after a memory over them was used: each public function lends
 //! what it was given to a memory, works the memory, and tells by its contract what the caller then holds.
 

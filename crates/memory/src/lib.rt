@@ -1,3 +1,4 @@
+#![tactic(auto)]
 //! Memories: rows of cells that each hold a word, over the caller's numbers, over the caller's bytes, or over two
 //! memories one after the other. Code above knows a memory by its meaning alone, the trait `Memory`.
 

@@ -1,3 +1,4 @@
+#![tactic(auto)]
 //! What a seat does with the words of one node: it reads its copy, works out where that leads, and drafts an update
 //! with the words to write.
 

@@ -1,3 +1,4 @@
+#![tactic(auto)]
 //! Key orders: which words are keys, and which of two keys comes first. Code above knows an order by its meaning
 //! alone, the trait `Order`.
 

@@ -1,3 +1,4 @@
+#![tactic(auto)]
 //! The data of an index and the rules that it is worked by.
 //!
 //! The index is a B+-tree of linked nodes of 32 words. Eight *seats* work on it, each with one find or put at a time,

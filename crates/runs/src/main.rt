@@ -1,3 +1,4 @@
+#![tactic(auto)]
 //! Fills an index with keys and works one seat on it, for measuring: two runs that differ in one number of their arguments
 //! differ by the instructions of what it stands for. A program in plain Rust makes the same runs; `bench/compare` runs both.
 //!

@@ -1,3 +1,4 @@
+#![tactic(auto)]
 //! A camera task is cut in the middle of a write, a stop task reads the same node, is turned back, and then finds the
 //! parcel. Each line is a run of steps that report the same.
 

@@ -1,3 +1,4 @@
+#![tactic(auto)]
 //! Works a tape, read on standard input, on an index, and prints a line for each record.
 
 mod fault;

@@ -1,3 +1,4 @@
+#![tactic(auto)]
 //! The tree that the linked nodes of an index make: what every update keeps, and what a walk finds.
 //!
 //! The crate has theorems only. They speak of nodes' contents, and of no cells, seats or steps.

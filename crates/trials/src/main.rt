@@ -1,3 +1,4 @@
+#![tactic(auto)]
 //! Runs trials: many calls on one index, drawn by a fixed generator, for each scenario on standard input; prints how often
 //! each number was answered, and a digest of every answer and of all cells at the end. A second program that shares no
 //! code with this one prints what this one must print.
