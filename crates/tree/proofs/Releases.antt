@@ -67,7 +67,7 @@ module _ (o : Order) where
     d_not_0 = root_not_free o g d s u.fresh
 
     e_not_0 : e ≡ 0 → ⊥
-    e_not_0 = root_not_free o g e s u.fresh-too
+    e_not_0 = root_not_free o g e s u.fresh_too
 
     raised : ℕ → Place
     raised = put 0 (held (risen y d) a b) (put d (held (with_entries y es) a b) g)
@@ -112,7 +112,7 @@ module _ (o : Order) where
     to_parted : Splits o raised parted d e i (with_entries y es) a b
     to_parted = record {
       was = raised_d;
-      fresh = raised_other e e_not_0 u.two ∙ u.fresh-too;
+      fresh = raised_other e e_not_0 u.two ∙ u.fresh_too;
       inside = d_not_0;
       some_left = u.some_left;
       some_right = u.some_right;
@@ -131,7 +131,7 @@ module _ (o : Order) where
         let m = last_key (take i es) in
         let q = posting_keeps o parted g' 0 (risen y d) a b m e y.level c.1 to_end c.0.sound
         ((starts o parted c.0.sound).1 y.level m e c.1) refl refl in (
-          kept_then g filled g' P (Some e) P (λ v n z p nz. (nz, λ q. held_not_free o g v (suc (o.rank n)) z e p.place u.fresh-too (same_some z e (sym q)))) k
+          kept_then g filled g' P (Some e) P (λ v n z p nz. (nz, λ q. held_not_free o g v (suc (o.rank n)) z e p.place u.fresh_too (same_some z e (sym q)))) k
               (kept_then filled raised g' None (Some e) (Some e) (λ _ _ z _ nz. (never_some z, nz)) r.0
               (kept_then raised parted g' None (Some e) (Some e) (λ _ _ z _ nz. (never_some z, nz)) c.0 q.0)),
           (λ w t. q.1 w (c.2 w (r.1 w t))),

@@ -10,7 +10,7 @@ returns c =
     let word = c.args.word in
     let new = c.new-memory.result.words in
     let last = c.write.new.self.words in
-    let n : last.name ≡ new.name = lent_name _ _ _ _ c.write.ensures.outside in
+    let n : last.ghost_name ≡ new.ghost_name = lent_name _ _ _ _ c.write.ensures.outside in
     let e : new.now ≡ c.args.words.now = ap (λ r. r.now) c.new-memory.ensures in
     let d : last.now ≡ stored c.args.words.now cell word =
     stored_whole new.now last.now cell word (omega arith) c.write.ensures.after (lent_rest _ _ _ _ c.write.ensures.outside) ∙ ap (λ r. stored r cell word) e in

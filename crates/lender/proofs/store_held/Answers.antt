@@ -13,4 +13,4 @@ returns c =
     let e : held.now ≡ c.args.words.now = ap (λ m. m.words.now) c.new-holder.ensures ∙ ap (λ r. r.now) c.new.ensures in
     let d : last.now ≡ stored held.now cell word =
     stored_whole held.now last.now cell word (omega arith) c.store.ensures.after (lent_rest _ _ _ _ c.store.ensures.outside) in
-    c.into-words.ensures ∙ ap (λ m. m.words.now) c.into-memory.ensures ∙ d ∙ ap (λ r. stored r cell word) e
+    c.into_words.ensures ∙ ap (λ m. m.words.now) c.into_memory.ensures ∙ d ∙ ap (λ r. stored r cell word) e

@@ -17,6 +17,6 @@ returns c =
     let f : r.now ≡ c.args.second.now = ap (λ x. x.words.now) c.new-memory.ensures.1 ∙ ap (λ x. x.now) c.new-2.ensures in
     let s = stored_joined l.now r.now l'.now r'.now cell word (omega arith) c.write.ensures.after o (lent_rest _ _ _ _ (outside_first o)) (lent_rest _ _ _ _ (outside_second o)) in
     record {
-      first = c.into-words.ensures ∙ ap (λ m. m.words.now) c.into-parts-left.ensures.0 ∙ s.0 ∙ ap (λ x. stored x cell word) e;
-      second = c.into-words-2.ensures ∙ ap (λ m. m.words.now) c.into-parts-left.ensures.1 ∙ s.1 ∙ ap (λ x. stored_second x r.now cell word) e ∙ ap (λ x. stored_second c.args.first.now x cell word) f;
+      first = c.into_words.ensures ∙ ap (λ m. m.words.now) c.into_parts-left.ensures.0 ∙ s.0 ∙ ap (λ x. stored x cell word) e;
+      second = c.into_words-2.ensures ∙ ap (λ m. m.words.now) c.into_parts-left.ensures.1 ∙ s.1 ∙ ap (λ x. stored_second x r.now cell word) e ∙ ap (λ x. stored_second c.args.first.now x cell word) f;
     }

@@ -5,4 +5,4 @@ use Rattle.dump.proofs.nodes.write_node.Goals as goal
 
 pub returns : goal.returns
 returns c =
-    four_pieces _ _ _ _ _ _ (top_text c.args.node c.args.words.now) (links_text c.args.words.now) (entries_text (entries c.args.words.now)) _ c.in-ok-write-lock.ensures c.in-ok-write-links.ensures c.in-ok-write-entries.ensures c.writeln.ensures.bytes
+    four_pieces _ _ _ _ _ _ (top_text c.args.node c.args.words.now) (links_text c.args.words.now) (entries_text (entries c.args.words.now)) _ c.in_ok-write_lock.ensures c.in_ok-write_links.ensures c.in_ok-write_entries.ensures c.writeln.ensures.bytes

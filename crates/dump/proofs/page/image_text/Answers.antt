@@ -4,7 +4,7 @@ use Rattle.dump.proofs.page.image_text.Goals as goal
 
 pub returns : goal.returns
 returns c = record {
-  text = c.text-of.ensures.text;
+  text = c.text_of.ensures.text;
   lines = lines_stand (cells_of c.args.width c.args.bytes.now);
-  same = c.text-of.ensures.same;
+  same = c.text_of.ensures.same;
 }

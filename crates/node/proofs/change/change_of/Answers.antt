@@ -7,8 +7,8 @@ use Rattle.node.proofs.change.change_of.Goals as goal
 pub returns-then-n-eq0 : goal.returns-then-n-eq0
 returns-then-n-eq0 g c = search (rules, post_none)
 
-pub returns-then-is-some : goal.returns-then-is-some
-returns-then-is-some g c =
+pub returns-then-is_some : goal.returns-then-is_some
+returns-then-is_some g c =
     let before = g.O.Order.before c.args.order.now in
     let key = c.args.seat.now.key in
     let es = entries c.args.seat.now.copy in
@@ -18,8 +18,8 @@ returns-then-is-some g c =
     let o = put_ends_replaced before key c.in-Put.value es i c.rank-at.ensures some in
     record { content = search rules; outcome = search rules; within = put_replaces_within before key c.in-Put.value es i c.rank-at.ensures some }
 
-pub returns-else-is-some : goal.returns-else-is-some
-returns-else-is-some g c =
+pub returns-else-is_some : goal.returns-else-is_some
+returns-else-is_some g c =
     let before = g.O.Order.before c.args.order.now in
     let key = c.args.seat.now.key in
     let es = entries c.args.seat.now.copy in

@@ -7,8 +7,8 @@ use Rattle.tape.proofs.player.play.Goals as goal
 pub returns : goal.returns
 returns g c =
     let tape = c.args.tape.now in
-    let r = c.play-bytes.result in
-    let e = c.play-bytes.ensures in
+    let r = c.play_bytes.result in
+    let e = c.play_bytes.ensures in
     record {
       lines = e.lines;
       after = e.after;

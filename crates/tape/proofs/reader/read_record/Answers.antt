@@ -9,4 +9,4 @@ returns c =
     let long : 4 ≤ length bytes = omega arith in
     let whole : 2 + c.short-len.result ≤ length bytes = omega arith in
     let size : c.from-end.result ≡ length_in bytes = omega arith in
-    (not_cut bytes c.short.result c.short-len.result _ c.short.ensures c.short-len.ensures long whole c.in-ok-record.ensures, what_follows bytes c.from-end.result size)
+    (not_cut bytes c.short.result c.short-len.result _ c.short.ensures c.short-len.ensures long whole c.in_ok-record.ensures, what_follows bytes c.from-end.result size)

@@ -4,5 +4,5 @@ use Rattle.tape.proofs.reader.short.Goals as goal
 
 pub returns : goal.returns
 returns c =
-    let copied = c.copy-from-slice.new.self in
-    number_read c.args.bytes.now copied c.args.at 2 _ c.copy-from-slice.ensures.after (c.from-le-bytes.ensures ∙ value_two copied (omega arith))
+    let copied = c.copy_from_slice.new.self in
+    number_read c.args.bytes.now copied c.args.at 2 _ c.copy_from_slice.ensures.after (c.from_le_bytes.ensures ∙ value_two copied (omega arith))

@@ -5,5 +5,5 @@ use Rattle.tape.proofs.reader.word.Goals as goal
 
 pub returns : goal.returns
 returns c =
-    let copied = c.copy-from-slice.new.self in
-    number_read c.args.bytes.now copied c.args.at 8 _ c.copy-from-slice.ensures.after (c.from-le-bytes.ensures ∙ value_eight copied (omega arith))
+    let copied = c.copy_from_slice.new.self in
+    number_read c.args.bytes.now copied c.args.at 8 _ c.copy_from_slice.ensures.after (c.from_le_bytes.ensures ∙ value_eight copied (omega arith))

@@ -8,8 +8,8 @@ returns g c =
     let after = c.perform.new.memory in
     record {
       rule =
-          stepped (view m g.O.Order c.args.self.now) c.args.seat c.in-ok-access.access c.in-ok-word.word
-          (m.cells after) (m.top after) c.go-on.new.count c.go-on.new.lent c.go-on.result
-          c.in-ok-access.ensures c.in-ok-word.ensures.answer c.perform.ensures.after c.perform.ensures.same c.go-on.ensures;
+          stepped (view m g.O.Order c.args.self.now) c.args.seat c.in_ok-access.access c.in_ok-word.word
+          (m.cells after) (m.top after) c.go_on.new.count c.go_on.new.lent c.go_on.result
+          c.in_ok-access.ensures c.in_ok-word.ensures.answer c.perform.ensures.after c.perform.ensures.same c.go_on.ensures;
       outside = c.perform.ensures.outside;
     }
