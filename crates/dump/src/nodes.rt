@@ -67,8 +67,8 @@ impl fmt::Display for Latch {
 
 /// The words of a node.
 fn words_of<M: Memory>(memory: &M, node: u64) -> [u64; 32]
-    requires { 32 * node + 32 ≤ length (M.Memory.cells memory.now) }
-    ensures { result ≡ node_words node (M.Memory.cells memory.now) }
+    requires { 32 * node + 32 ≤ length (M.cells memory.now) }
+    ensures { result ≡ node_words node (M.cells memory.now) }
 {
     let mut words = [0; 32];
     for i in 0..32 {
@@ -129,8 +129,8 @@ fn write_node(text: &mut String, node: u64, words: &[u64; 32]) -> fmt::Result
 
 /// Appends the lines of the first `count` nodes.
 fn write_nodes<M: Memory>(text: &mut String, memory: &M, count: u64) -> fmt::Result
-    requires { count ≤ length (M.Memory.cells memory.now) / 32 }
-    ensures { OnOk result (string_bytes text.new ≡ string_bytes text.old ++ nodes_text 0 count (M.Memory.cells memory.now)) }
+    requires { count ≤ length (M.cells memory.now) / 32 }
+    ensures { OnOk result (string_bytes text.new ≡ string_bytes text.old ++ nodes_text 0 count (M.cells memory.now)) }
 {
     for node in 0..count {
         write_node(text, node, &words_of(memory, node))?;

@@ -90,16 +90,16 @@ fn write_run(text: &mut String, first: u64, end: u64) -> fmt::Result
 
 /// The word of a cell of the row.
 pub(crate) fn word<M: Memory>(memory: &M, cell: u64) -> u64
-    requires { cell < length (M.Memory.cells memory.now) }
-    ensures { result ≡ slice_index (M.Memory.cells memory.now) cell }
+    requires { cell < length (M.cells memory.now) }
+    ensures { result ≡ slice_index (M.cells memory.now) cell }
 {
     memory.read(cell).unwrap()
 }
 
 /// Whether the cells from `first` on, before `end`, all hold 0.
 fn all_zero<M: Memory>(memory: &M, first: u64, end: u64) -> bool
-    requires { end ≤ length (M.Memory.cells memory.now) }
-    ensures { result ≡ all_zero (between first end (M.Memory.cells memory.now)) }
+    requires { end ≤ length (M.cells memory.now) }
+    ensures { result ≡ all_zero (between first end (M.cells memory.now)) }
 {
     for cell in first..end {
         if word(memory, cell) != 0 {
@@ -111,8 +111,8 @@ fn all_zero<M: Memory>(memory: &M, first: u64, end: u64) -> bool
 
 /// Appends the line of a row, the cells from `first` on, before `end`.
 fn write_row<M: Memory>(text: &mut String, memory: &M, first: u64, end: u64) -> fmt::Result
-    requires { (first < end) × (end ≤ length (M.Memory.cells memory.now)) }
-    ensures { OnOk result (string_bytes text.new ≡ string_bytes text.old ++ row_text first (between first end (M.Memory.cells memory.now))) }
+    requires { (first < end) × (end ≤ length (M.cells memory.now)) }
+    ensures { OnOk result (string_bytes text.new ≡ string_bytes text.old ++ row_text first (between first end (M.cells memory.now))) }
 {
     write_span(text, first, end)?;
     for cell in first..end {
@@ -132,7 +132,7 @@ fn row_end(first: u64, length: u64) -> u64
 
 /// Appends the lines of a memory's cells, a run of rows that are all 0 as one line.
 fn write_cells<M: Memory>(text: &mut String, memory: &M) -> fmt::Result
-    ensures { OnOk result (string_bytes text.new ≡ string_bytes text.old ++ lines_text (lines_of (M.Memory.cells memory.now))) }
+    ensures { OnOk result (string_bytes text.new ≡ string_bytes text.old ++ lines_text (lines_of (M.cells memory.now))) }
 {
     let length = memory.length();
     let mut zeros = 0;

@@ -13,7 +13,7 @@ use rules::{Access, Extent, Phase, Seat};
 
 /// What a step takes of the index beside its cells and the seat.
 pub fn extent<M: Memory>(memory: &M, fan: u8) -> Extent
-    ensures { result ≡ record { fan = fan; top = top memory.now; nodes = length (cells memory.now) / 32 } }
+    ensures { result ≡ record { fan = fan; top = M.top memory.now; nodes = length (M.cells memory.now) / 32 } }
 {
     Extent {
         fan,
@@ -75,11 +75,11 @@ pub fn access(seat: &Seat, extent: Extent) -> Result<Access, Fault>
 
 /// Makes one access; none, and a write, answer 0.
 pub fn perform<M: Memory>(memory: &mut M, access: Access) -> Result<u64, Fault>
-    ensures answer { result ≡ answers (cells memory.old) (top memory.old) access }
-    ensures after { cells memory.new ≡ leaves (cells memory.old) (top memory.old) access }
-    ensures refused { OnErr result (cells memory.new ≡ cells memory.old) }
-    ensures same { top memory.new ≡ top memory.old }
-    ensures outside { outside memory.new ≡ outside memory.old }
+    ensures answer { result ≡ answers (M.cells memory.old) (M.top memory.old) access }
+    ensures after { M.cells memory.new ≡ leaves (M.cells memory.old) (M.top memory.old) access }
+    ensures refused { OnErr result (M.cells memory.new ≡ M.cells memory.old) }
+    ensures same { M.top memory.new ≡ M.top memory.old }
+    ensures outside { M.outside memory.new ≡ M.outside memory.old }
 {
     match access {
         Access::None => Ok(0),
@@ -98,9 +98,9 @@ pub fn perform<M: Memory>(memory: &mut M, access: Access) -> Result<u64, Fault>
 
 /// Makes the cells of node 0 hold 0.
 pub fn clear<M: Memory>(memory: &mut M)
-    ensures after { cells memory.new ≡ zeroed 32 (cells memory.old) }
-    ensures same { top memory.new ≡ top memory.old }
-    ensures outside { outside memory.new ≡ outside memory.old }
+    ensures after { M.cells memory.new ≡ zeroed 32 (M.cells memory.old) }
+    ensures same { M.top memory.new ≡ M.top memory.old }
+    ensures outside { M.outside memory.new ≡ M.outside memory.old }
 {
     for cell in 0..32 {
         let _ = memory.write(cell, 0);

@@ -49,7 +49,7 @@ impl<M: Memory, O: Order> Index<M, O> {
     pub fn format(&mut self, fan: u64) -> Result<Report, Refusal>
         ensures rule { (result, view M.Memory O.Order self.new) ≡ format_rule (view M.Memory O.Order self.old) fan }
         ensures refused { OnErr result (view M.Memory O.Order self.new ≡ view M.Memory O.Order self.old) }
-        ensures outside { M.Memory.outside self.new.memory ≡ M.Memory.outside self.old.memory }
+        ensures outside { M.outside self.new.memory ≡ M.outside self.old.memory }
         ensures reached { Starts result (view M.Memory O.Order self.new) }
     {
         self.start(fan)
@@ -58,7 +58,7 @@ impl<M: Memory, O: Order> Index<M, O> {
     /// The format itself: all that it does is in the rules.
     fn start(&mut self, fan: u64) -> Result<Report, Refusal>
         ensures rule { (result, view M.Memory O.Order self.new) ≡ format_rule (view M.Memory O.Order self.old) fan }
-        ensures outside { M.Memory.outside self.new.memory ≡ M.Memory.outside self.old.memory }
+        ensures outside { M.outside self.new.memory ≡ M.outside self.old.memory }
     {
         if self.fan != 0 {
             return Err(Refusal::Formatted);
@@ -80,7 +80,7 @@ impl<M: Memory, O: Order> Index<M, O> {
     pub fn begin_find(&mut self, seat: u64, key: u64) -> Result<Report, Refusal>
         ensures rule { (result, view M.Memory O.Order self.new) ≡ begin_rule (view M.Memory O.Order self.old) seat key Find }
         ensures refused { OnErr result (view M.Memory O.Order self.new ≡ view M.Memory O.Order self.old) }
-        ensures outside { M.Memory.outside self.new.memory ≡ M.Memory.outside self.old.memory }
+        ensures outside { M.outside self.new.memory ≡ M.outside self.old.memory }
         ensures reached { LeadsOn (BeginFind seat key) result (view M.Memory O.Order self.old) (view M.Memory O.Order self.new) }
         ensures lawful { StaysLawful (BeginFind seat key) result (view M.Memory O.Order self.old) }
     {
@@ -91,7 +91,7 @@ impl<M: Memory, O: Order> Index<M, O> {
     pub fn begin_put(&mut self, seat: u64, key: u64, value: u64) -> Result<Report, Refusal>
         ensures rule { (result, view M.Memory O.Order self.new) ≡ begin_rule (view M.Memory O.Order self.old) seat key (Put value) }
         ensures refused { OnErr result (view M.Memory O.Order self.new ≡ view M.Memory O.Order self.old) }
-        ensures outside { M.Memory.outside self.new.memory ≡ M.Memory.outside self.old.memory }
+        ensures outside { M.outside self.new.memory ≡ M.outside self.old.memory }
         ensures reached { LeadsOn (BeginPut seat key value) result (view M.Memory O.Order self.old) (view M.Memory O.Order self.new) }
         ensures lawful { StaysLawful (BeginPut seat key value) result (view M.Memory O.Order self.old) }
     {
@@ -101,7 +101,7 @@ impl<M: Memory, O: Order> Index<M, O> {
     /// Has an idle seat start out on an operation.
     fn begin(&mut self, seat: u64, key: u64, operation: Operation) -> Result<Report, Refusal>
         ensures rule { (result, view M.Memory O.Order self.new) ≡ begin_rule (view M.Memory O.Order self.old) seat key operation }
-        ensures outside { M.Memory.outside self.new.memory ≡ M.Memory.outside self.old.memory }
+        ensures outside { M.outside self.new.memory ≡ M.outside self.old.memory }
     {
         self.may_begin(seat, key, operation)?;
         let lent = &mut self.seats[seat as usize];
@@ -131,7 +131,7 @@ impl<M: Memory, O: Order> Index<M, O> {
     pub fn step(&mut self, seat: u64) -> Result<Report, Refusal>
         ensures rule { (result, view M.Memory O.Order self.new) ≡ step_rule (view M.Memory O.Order self.old) seat }
         ensures refused { OnErr result (view M.Memory O.Order self.new ≡ view M.Memory O.Order self.old) }
-        ensures outside { M.Memory.outside self.new.memory ≡ M.Memory.outside self.old.memory }
+        ensures outside { M.outside self.new.memory ≡ M.outside self.old.memory }
         ensures reached { LeadsOn (Step seat) result (view M.Memory O.Order self.old) (view M.Memory O.Order self.new) }
         ensures lawful { StaysLawful (Step seat) result (view M.Memory O.Order self.old) }
     {
@@ -141,7 +141,7 @@ impl<M: Memory, O: Order> Index<M, O> {
     /// The step itself: the one access, and how the seat goes on from its word.
     fn advance(&mut self, seat: u64) -> Result<Report, Refusal>
         ensures rule { (result, view M.Memory O.Order self.new) ≡ step_rule (view M.Memory O.Order self.old) seat }
-        ensures outside { M.Memory.outside self.new.memory ≡ M.Memory.outside self.old.memory }
+        ensures outside { M.outside self.new.memory ≡ M.outside self.old.memory }
     {
         let access = self.due(seat)?;
         let word = perform(&mut self.memory, access)?;
@@ -184,7 +184,7 @@ impl<M: Memory, O: Order> Index<M, O> {
     pub fn abandon(&mut self, seat: u64) -> Result<Report, Refusal>
         ensures rule { (result, view M.Memory O.Order self.new) ≡ abandon_rule (view M.Memory O.Order self.old) seat }
         ensures refused { OnErr result (view M.Memory O.Order self.new ≡ view M.Memory O.Order self.old) }
-        ensures outside { M.Memory.outside self.new.memory ≡ M.Memory.outside self.old.memory }
+        ensures outside { M.outside self.new.memory ≡ M.outside self.old.memory }
         ensures reached { LeadsOn (Abandon seat) result (view M.Memory O.Order self.old) (view M.Memory O.Order self.new) }
         ensures lawful { StaysLawful (Abandon seat) result (view M.Memory O.Order self.old) }
     {
@@ -194,7 +194,7 @@ impl<M: Memory, O: Order> Index<M, O> {
     /// The abandoning itself: only the seat's phase changes.
     fn free(&mut self, seat: u64) -> Result<Report, Refusal>
         ensures rule { (result, view M.Memory O.Order self.new) ≡ abandon_rule (view M.Memory O.Order self.old) seat }
-        ensures outside { M.Memory.outside self.new.memory ≡ M.Memory.outside self.old.memory }
+        ensures outside { M.outside self.new.memory ≡ M.outside self.old.memory }
     {
         let report = self.may_abandon(seat)?;
         let lent = &mut self.seats[seat as usize];

@@ -178,7 +178,7 @@ pub fn wear_out(seat: &mut Seat) -> Report
 
 /// Drafts the update of the node whose latch the seat has won; `freeing` is the lock word that will free it.
 pub fn hold<O: Order>(seat: &mut Seat, order: &O, fan: u8, freeing: u64)
-    ensures { seat.new ≡ with_draft seat.old (freed_by freeing (draft_of (before order.now) fan seat.old)) (if splits fan (draft_of (before order.now) fan seat.old) then Take else Fill Own 1) }
+    ensures { seat.new ≡ with_draft seat.old (freed_by freeing (draft_of (O.before order.now) fan seat.old)) (if splits fan (draft_of (O.before order.now) fan seat.old) then Take else Fill Own 1) }
 {
     draft_update(seat, order, fan, freeing);
     seat.phase = if fan < seat.draft.len {
@@ -318,7 +318,7 @@ pub fn go_on<M: Memory, O: Order>(
     fan: u8,
     count: &mut u64,
 ) -> Report
-    ensures { (lent.new, count.new, result) ≡ advance (before order.now) (record { fan = fan; top = top memory.now; nodes = length (cells memory.now) / 32 }) lent.old count.old word }
+    ensures { (lent.new, count.new, result) ≡ advance (O.before order.now) (record { fan = fan; top = M.top memory.now; nodes = length (M.cells memory.now) / 32 }) lent.old count.old word }
 {
     let node = lent.node;
     match (lent.phase, word) {

@@ -31,9 +31,9 @@ pub fn store_in_bytes(bytes: &mut [u8], width: Width, cell: u64, word: u64) -> R
 
 /// Writes 0 to every cell of any memory.
 pub fn wipe<M: Memory>(memory: &mut M)
-    ensures after { M.Memory.cells memory.new ≡ wiped (M.Memory.cells memory.old) }
-    ensures same { M.Memory.top memory.new ≡ M.Memory.top memory.old }
-    ensures outside { M.Memory.outside memory.new ≡ M.Memory.outside memory.old }
+    ensures after { M.cells memory.new ≡ wiped (M.cells memory.old) }
+    ensures same { M.top memory.new ≡ M.top memory.old }
+    ensures outside { M.outside memory.new ≡ M.outside memory.old }
 {
     for cell in 0..memory.length() {
         let _ = memory.write(cell, 0);
@@ -72,10 +72,10 @@ impl<M: Memory> Holder<M> {
 
     /// Stores a word.
     pub fn store(&mut self, cell: u64, word: u64) -> Result<(), Fault>
-        ensures answer { result ≡ guarded (M.Memory.cells self.old.memory) (M.Memory.top self.old.memory) cell word tt }
-        ensures after { M.Memory.cells self.new.memory ≡ written (M.Memory.cells self.old.memory) (M.Memory.top self.old.memory) cell word }
-        ensures same { M.Memory.top self.new.memory ≡ M.Memory.top self.old.memory }
-        ensures outside { M.Memory.outside self.new.memory ≡ M.Memory.outside self.old.memory }
+        ensures answer { result ≡ guarded (M.cells self.old.memory) (M.top self.old.memory) cell word tt }
+        ensures after { M.cells self.new.memory ≡ written (M.cells self.old.memory) (M.top self.old.memory) cell word }
+        ensures same { M.top self.new.memory ≡ M.top self.old.memory }
+        ensures outside { M.outside self.new.memory ≡ M.outside self.old.memory }
     {
         self.memory.write(cell, word)
     }

@@ -22,8 +22,8 @@ pub enum Change {
 
 /// The change that a seat's operation makes of the node that it has copied.
 pub fn change_of<O: Order>(seat: &Seat, order: &O) -> Change
-    ensures content { changed result (entries seat.now.copy) ≡ content (before order.now) seat.now }
-    ensures outcome { ends_as result (entries seat.now.copy) ≡ finished (before order.now) seat.now.operation seat.now.key (entries seat.now.copy) }
+    ensures content { changed result (entries seat.now.copy) ≡ content (O.before order.now) seat.now }
+    ensures outcome { ends_as result (entries seat.now.copy) ≡ finished (O.before order.now) seat.now.operation seat.now.key (entries seat.now.copy) }
     ensures within { Within result (entries seat.now.copy) }
 {
     match seat.operation {

@@ -30,14 +30,14 @@ pub fn entry(copy: &[u64; 32], i: usize) -> Entry
 
 /// Whether a key belongs to a node, and not only to those right of it.
 pub fn covers<O: Order>(copy: &[u64; 32], order: &O, key: u64) -> bool
-    ensures { result ≡ covers_rule (before order.now) copy.now key }
+    ensures { result ≡ covers_rule (O.before order.now) copy.now key }
 {
     copy[3] == 0 || !order.before(copy[4], key)
 }
 
 /// How many entries stand before the first one whose key isn't before `key`.
 pub fn rank<O: Order>(copy: &[u64; 32], order: &O, key: u64) -> usize
-    ensures { result ≡ rank_rule (before order.now) key (entries copy.now) }
+    ensures { result ≡ rank_rule (O.before order.now) key (entries copy.now) }
 {
     let n = len(copy);
     for i in 0..n {
@@ -50,7 +50,7 @@ pub fn rank<O: Order>(copy: &[u64; 32], order: &O, key: u64) -> usize
 
 /// The child that leads to a key; 0 of a node with no entries.
 pub fn child<O: Order>(copy: &[u64; 32], order: &O, key: u64) -> u64
-    ensures { result ≡ child_rule (before order.now) key (entries copy.now) }
+    ensures { result ≡ child_rule (O.before order.now) key (entries copy.now) }
 {
     let n = len(copy);
     if n == 0 {
@@ -74,7 +74,7 @@ pub fn value_at(copy: &[u64; 32], i: usize, key: u64) -> Option<u64>
 
 /// The value of a key in a leaf.
 pub fn find<O: Order>(copy: &[u64; 32], order: &O, key: u64) -> Option<u64>
-    ensures { result ≡ found (before order.now) key (entries copy.now) }
+    ensures { result ≡ found (O.before order.now) key (entries copy.now) }
 {
     value_at(copy, rank(copy, order, key), key)
 }

@@ -23,7 +23,7 @@ pub enum Course {
 /// The course of a seat whose copy is accepted: to the link of a node that does not cover the key, to the child of
 /// one above the aim, or else arrived.
 pub fn course_of<O: Order>(seat: &Seat, order: &O) -> Course
-    ensures { accepts (before order.now) seat.now ≡ followed seat.now result }
+    ensures { accepts (O.before order.now) seat.now ≡ followed seat.now result }
 {
     if !covers(&seat.copy, order, seat.key) {
         return Course::To(seat.copy[3]);

@@ -45,7 +45,7 @@ fn left_len(fan: u8) -> u8
 
 /// Drafts the update of the node that a seat has latched; `freeing` is the lock word that will free it.
 pub fn draft_update<O: Order>(seat: &mut Seat, order: &O, fan: u8, freeing: u64)
-    ensures { seat.new ≡ with_draft seat.old (freed_by freeing (draft_of (before order.now) fan seat.old)) seat.old.phase }
+    ensures { seat.new ≡ with_draft seat.old (freed_by freeing (draft_of (O.before order.now) fan seat.old)) seat.old.phase }
 {
     let change = change_of(seat, order);
     let len = lay(&mut seat.draft.entries, &seat.copy, change);

@@ -48,7 +48,7 @@ fn stops(answer: Result<Report, Refusal>) -> bool
 fn make_steps<M: Memory, O: Order>(index: &mut Index<M, O>, seat: u64, count: u16) -> Line
     ensures line { result ≡ line_of 3 (stepped count seat (view M.Memory O.Order index.old)).events }
     ensures after { view M.Memory O.Order index.new ≡ (stepped count seat (view M.Memory O.Order index.old)).state }
-    ensures outside { M.Memory.outside index.new.memory ≡ M.Memory.outside index.old.memory }
+    ensures outside { M.outside index.new.memory ≡ M.outside index.old.memory }
 {
     let mut line = Line::of_no_call(3);
     for made in 0..count {
@@ -65,7 +65,7 @@ fn make_steps<M: Memory, O: Order>(index: &mut Index<M, O>, seat: u64, count: u1
 fn carry_out<M: Memory, O: Order>(index: &mut Index<M, O>, record: Record) -> Line
     ensures line { result ≡ line_of (kind_of «record») (carry_out «record» (view M.Memory O.Order index.old)).events }
     ensures after { view M.Memory O.Order index.new ≡ (carry_out «record» (view M.Memory O.Order index.old)).state }
-    ensures outside { M.Memory.outside index.new.memory ≡ M.Memory.outside index.old.memory }
+    ensures outside { M.outside index.new.memory ≡ M.outside index.old.memory }
 {
     match record {
         Record::Find { seat, key } => {
@@ -84,7 +84,7 @@ fn play_records<M: Memory, O: Order>(index: &mut Index<M, O>, tape: &[u8], lines
     requires { vec_len lines.old + length tape.now / 5 < vec_capacity lines.old }
     ensures lines { lines.new.items ≡ lines.old.items ++ (play_from 0 (view M.Memory O.Order index.old) tape.now).lines }
     ensures after { view M.Memory O.Order index.new ≡ (play_from 0 (view M.Memory O.Order index.old) tape.now).state }
-    ensures outside { M.Memory.outside index.new.memory ≡ M.Memory.outside index.old.memory }
+    ensures outside { M.outside index.new.memory ≡ M.outside index.old.memory }
 {
     let mut rest = tape;
     while !rest.is_empty() {
@@ -111,7 +111,7 @@ fn play_bytes<M: Memory, O: Order>(
     ensures lines { IfOk result (λ v. v.items ≡ (play_rule (view M.Memory O.Order index.old) tape.now).lines) }
     ensures after { OnOk result (view M.Memory O.Order index.new ≡ (play_rule (view M.Memory O.Order index.old) tape.now).state) }
     ensures refused { OnErr result (view M.Memory O.Order index.new ≡ view M.Memory O.Order index.old) }
-    ensures outside { M.Memory.outside index.new.memory ≡ M.Memory.outside index.old.memory }
+    ensures outside { M.outside index.new.memory ≡ M.outside index.old.memory }
 {
     if tape.len() > LONGEST {
         let mut lines = Vec::with_capacity(heap, 1)?;
@@ -133,7 +133,7 @@ pub fn play<M: Memory, O: Order>(
     ensures lines { IfOk result (λ v. v.items ≡ (play_rule (view M.Memory O.Order index.old) tape.now).lines) }
     ensures after { OnOk result (view M.Memory O.Order index.new ≡ (play_rule (view M.Memory O.Order index.old) tape.now).state) }
     ensures refused { OnErr result (view M.Memory O.Order index.new ≡ view M.Memory O.Order index.old) }
-    ensures outside { M.Memory.outside index.new.memory ≡ M.Memory.outside index.old.memory }
+    ensures outside { M.outside index.new.memory ≡ M.outside index.old.memory }
     ensures reached { OnOk result (LeadsOn tape.now (view M.Memory O.Order index.old) (view M.Memory O.Order index.new)) }
     ensures lawful { StaysLawful tape.now (view M.Memory O.Order index.old) }
     ensures parts { IfOk result (λ v. InParts tape.now (view M.Memory O.Order index.old) v.items (view M.Memory O.Order index.new)) }

@@ -22,7 +22,7 @@ const FAN: u64 = 3;
 
 /// A new index over a memory, formatted if the memory has room for its root.
 fn formatted<M: Memory, O: Order>(memory: M, order: O) -> Index<M, O>
-    ensures { view M.Memory O.Order result ≡ (format (unformatted (M.Memory.cells memory) (M.Memory.top memory) (O.Order.iskey order) (O.Order.before order)) 3).1 }
+    ensures { view M.Memory O.Order result ≡ (format (unformatted (M.cells memory) (M.top memory) (O.iskey order) (O.before order)) 3).1 }
 {
     let mut index = Index::new(memory, order);
     let _ = index.format(FAN);
