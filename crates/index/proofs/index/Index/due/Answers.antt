@@ -8,12 +8,12 @@ use Rattle.index.specs.Views.{view}
 use Rattle.index.proofs.Reaching.{step_beyond}
 use Rattle.index.proofs.index.Index.due.Goals as goal
 
-pub returns-in_err-access : goal.returns-in_err-access
-returns-in_err-access g c =
-    let p = err_from_is_err_and c.from_residual-in_err-access.result c.from_residual-in_err-access.ensures.1 in
+pub returns-in_err-access-in_default : goal.returns-in_err-access-in_default
+returns-in_err-access-in_default g c =
+    let p = err_from_is_err_and c.from_residual-in_err-access-in_default.result c.from_residual-in_err-access-in_default.ensures.1 in
     let st = view g.M.Memory g.O.Order c.args.self.now in
     let j = c.in_ok-lent.field-0 in
-    let h = c.in_err-access.ensures in
+    let h = c.in_err-access-in_default.ensures in
     rw (p.1, p.2)
     (step_beyond st c.args.seat j c.in_ok-lent.ensures c.in_default.not-Idle (g.M.Memory.bounded c.args.self.now.memory).short
     (subst (λ x. Beyond (access_of x (seat_at st.seats j))) c.extent.ensures h.1)
