@@ -10,7 +10,7 @@ ghost use Rattle.dump.specs.declared.nodes.Trouble.TheVariants.{FewNodes, NoMemo
 use super::page::{word, write_head};
 use memory::{ByteMemory, Memory, Width};
 use node::{entry, len};
-use std::alloc::Global;
+use std::alloc::{AllocError, Global};
 use std::error::Error;
 use std::fmt;
 
@@ -78,7 +78,7 @@ fn words_of<M: Memory>(memory: &M, node: u64) -> [u64; 32]
 }
 
 /// Appends a node's number and its lock word, with latch and version.
-fn write_lock(text: &mut String, node: u64, words: &[u64; 32]) -> fmt::Result
+fn write_lock(text: &mut String, node: u64, words: &[u64; 32]) -> Result<(), AllocError>
     ensures { OnOk result (string_bytes text.new ≡ string_bytes text.old ++ top_text node words.now) }
 {
     let lock = words[0];
@@ -91,7 +91,7 @@ fn write_lock(text: &mut String, node: u64, words: &[u64; 32]) -> fmt::Result
 }
 
 /// Appends a node's level, number of entries, link and high key.
-fn write_links(text: &mut String, words: &[u64; 32]) -> fmt::Result
+fn write_links(text: &mut String, words: &[u64; 32]) -> Result<(), AllocError>
     ensures { OnOk result (string_bytes text.new ≡ string_bytes text.old ++ links_text words.now) }
 {
     let level = words[1];
@@ -105,7 +105,7 @@ fn write_links(text: &mut String, words: &[u64; 32]) -> fmt::Result
 }
 
 /// Appends a node's entries.
-fn write_entries(text: &mut String, words: &[u64; 32]) -> fmt::Result
+fn write_entries(text: &mut String, words: &[u64; 32]) -> Result<(), AllocError>
     ensures { OnOk result (string_bytes text.new ≡ string_bytes text.old ++ entries_text (entries words.now)) }
 {
     for i in 0..len(words) {
@@ -118,7 +118,7 @@ fn write_entries(text: &mut String, words: &[u64; 32]) -> fmt::Result
 }
 
 /// Appends the line of a node.
-fn write_node(text: &mut String, node: u64, words: &[u64; 32]) -> fmt::Result
+fn write_node(text: &mut String, node: u64, words: &[u64; 32]) -> Result<(), AllocError>
     ensures { OnOk result (string_bytes text.new ≡ string_bytes text.old ++ node_text node words.now) }
 {
     write_lock(text, node, words)?;
@@ -128,7 +128,7 @@ fn write_node(text: &mut String, node: u64, words: &[u64; 32]) -> fmt::Result
 }
 
 /// Appends the lines of the first `count` nodes.
-fn write_nodes<M: Memory>(text: &mut String, memory: &M, count: u64) -> fmt::Result
+fn write_nodes<M: Memory>(text: &mut String, memory: &M, count: u64) -> Result<(), AllocError>
     requires { count ≤ length (M.cells memory.now) / 32 }
     ensures { OnOk result (string_bytes text.new ≡ string_bytes text.old ++ nodes_text 0 count (M.cells memory.now)) }
 {
@@ -144,7 +144,7 @@ fn write_index(
     bytes: &mut [u8],
     width: Width,
     count: u64,
-) -> Result<bool, fmt::Error>
+) -> Result<bool, AllocError>
     ensures text { MatchResult result (λ fits. (fits ≡ nat_le count (count_of width bytes.old / 32)) × (T fits → string_bytes text.new ≡ string_bytes text.old ++ index_text width count bytes.old)) (λ _. count ≤ count_of width bytes.old / 32) }
     ensures same { bytes.new ≡ bytes.old }
 {
@@ -173,7 +173,7 @@ pub fn index_text(
     match write_index(&mut text, bytes, width, count) {
         Ok(true) => Ok(text),
         Ok(false) => Err(Trouble::FewNodes),
-        Err(fmt::Error) => Err(Trouble::NoMemory),
+        Err(AllocError) => Err(Trouble::NoMemory),
     }
 }
 

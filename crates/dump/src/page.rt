@@ -34,7 +34,7 @@ impl fmt::Display for Plural {
 }
 
 /// Appends the line that tells how many cells there are and what they take.
-pub(crate) fn write_head(text: &mut String, cells: u64, bytes: u64, top: u64) -> fmt::Result
+pub(crate) fn write_head(text: &mut String, cells: u64, bytes: u64, top: u64) -> Result<(), AllocError>
     ensures { OnOk result (string_bytes text.new ≡ string_bytes text.old ++ head_text cells bytes top) }
 {
     let s = Plural(cells);
@@ -42,7 +42,7 @@ pub(crate) fn write_head(text: &mut String, cells: u64, bytes: u64, top: u64) ->
 }
 
 /// Appends the line of the bytes that are in no cell.
-fn write_left(text: &mut String, count: u64) -> fmt::Result
+fn write_left(text: &mut String, count: u64) -> Result<(), AllocError>
     ensures { OnOk result (string_bytes text.new ≡ string_bytes text.old ++ left_text count) }
 {
     let s = Plural(count);
@@ -50,7 +50,7 @@ fn write_left(text: &mut String, count: u64) -> fmt::Result
 }
 
 /// Appends the line of the bytes that are in no cell, unless there are none.
-fn write_rest(text: &mut String, count: u64) -> fmt::Result
+fn write_rest(text: &mut String, count: u64) -> Result<(), AllocError>
     ensures { OnOk result (string_bytes text.new ≡ string_bytes text.old ++ unless_none count (left_text count)) }
 {
     if count == 0 {
@@ -60,7 +60,7 @@ fn write_rest(text: &mut String, count: u64) -> fmt::Result
 }
 
 /// Appends the beginning of the line of the cells from `first` on, before `end`.
-fn write_span(text: &mut String, first: u64, end: u64) -> fmt::Result
+fn write_span(text: &mut String, first: u64, end: u64) -> Result<(), AllocError>
     requires { first < end }
     ensures { OnOk result (string_bytes text.new ≡ string_bytes text.old ++ span_text first end) }
 {
@@ -69,7 +69,7 @@ fn write_span(text: &mut String, first: u64, end: u64) -> fmt::Result
 }
 
 /// Appends the line of a run of cells that are all 0.
-fn write_zeros(text: &mut String, first: u64, end: u64) -> fmt::Result
+fn write_zeros(text: &mut String, first: u64, end: u64) -> Result<(), AllocError>
     requires { first < end }
     ensures { OnOk result (string_bytes text.new ≡ string_bytes text.old ++ zeros_text first end) }
 {
@@ -78,7 +78,7 @@ fn write_zeros(text: &mut String, first: u64, end: u64) -> fmt::Result
 }
 
 /// Appends the line of a run of cells that are all 0, unless it is empty.
-fn write_run(text: &mut String, first: u64, end: u64) -> fmt::Result
+fn write_run(text: &mut String, first: u64, end: u64) -> Result<(), AllocError>
     requires { first ≤ end }
     ensures { OnOk result (string_bytes text.new ≡ string_bytes text.old ++ unless_none (end - first) (zeros_text first end)) }
 {
@@ -110,7 +110,7 @@ fn all_zero<M: Memory>(memory: &M, first: u64, end: u64) -> bool
 }
 
 /// Appends the line of a row, the cells from `first` on, before `end`.
-fn write_row<M: Memory>(text: &mut String, memory: &M, first: u64, end: u64) -> fmt::Result
+fn write_row<M: Memory>(text: &mut String, memory: &M, first: u64, end: u64) -> Result<(), AllocError>
     requires { (first < end) × (end ≤ length (M.cells memory.now)) }
     ensures { OnOk result (string_bytes text.new ≡ string_bytes text.old ++ row_text first (between first end (M.cells memory.now))) }
 {
@@ -131,7 +131,7 @@ fn row_end(first: u64, length: u64) -> u64
 }
 
 /// Appends the lines of a memory's cells, a run of rows that are all 0 as one line.
-fn write_cells<M: Memory>(text: &mut String, memory: &M) -> fmt::Result
+fn write_cells<M: Memory>(text: &mut String, memory: &M) -> Result<(), AllocError>
     ensures { OnOk result (string_bytes text.new ≡ string_bytes text.old ++ lines_text (lines_of (M.cells memory.now))) }
 {
     let length = memory.length();
@@ -150,7 +150,7 @@ fn write_cells<M: Memory>(text: &mut String, memory: &M) -> fmt::Result
 }
 
 /// Appends the text of an image.
-fn write_image(text: &mut String, bytes: &mut [u8], width: Width) -> fmt::Result
+fn write_image(text: &mut String, bytes: &mut [u8], width: Width) -> Result<(), AllocError>
     ensures text { OnOk result (string_bytes text.new ≡ string_bytes text.old ++ image_text width bytes.old) }
     ensures same { bytes.new ≡ bytes.old }
 {
@@ -169,10 +169,8 @@ fn text_of(heap: Global, bytes: &mut [u8], width: Width) -> Result<String, Alloc
     ensures same { bytes.new ≡ bytes.old }
 {
     let mut text = String::new(heap);
-    match write_image(&mut text, bytes, width) {
-        Ok(()) => Ok(text),
-        Err(fmt::Error) => Err(AllocError),
-    }
+    write_image(&mut text, bytes, width)?;
+    Ok(text)
 }
 
 /// The text of an image: how many cells it has, their words by rows, and how many bytes are in no cell.

@@ -89,7 +89,7 @@ impl fmt::Display for Line {
 }
 
 /// Appends the lines.
-fn write_lines(text: &mut String, lines: &[Line]) -> fmt::Result
+fn write_lines(text: &mut String, lines: &[Line]) -> Result<(), AllocError>
     ensures { OnOk result (string_bytes text.new ≡ string_bytes text.old ++ lines_text lines.now) }
 {
     for line in lines {
@@ -103,8 +103,6 @@ pub fn lines_text(heap: Global, lines: &[Line]) -> Result<String, AllocError>
     ensures { IfOk result (λ s. string_bytes s ≡ lines_text lines.now) }
 {
     let mut text = String::new(heap);
-    match write_lines(&mut text, lines) {
-        Ok(()) => Ok(text),
-        Err(fmt::Error) => Err(AllocError),
-    }
+    write_lines(&mut text, lines)?;
+    Ok(text)
 }

@@ -3,7 +3,6 @@
 use super::digest::Digest;
 use rules::{Refusal, Report};
 use std::alloc::{AllocError, Global};
-use std::fmt;
 
 /// How often each number was answered, and the digest of all answers.
 #[derive(Clone, Copy)]
@@ -45,13 +44,11 @@ impl Tally {
     /// The counts that are not 0, and the digest, each after a space.
     pub(crate) fn text(&self, heap: Global) -> Result<String, AllocError> {
         let mut text = String::new(heap);
-        match self.write(&mut text) {
-            Ok(()) => Ok(text),
-            Err(fmt::Error) => Err(AllocError),
-        }
+        self.write(&mut text)?;
+        Ok(text)
     }
 
-    fn write(&self, text: &mut String) -> fmt::Result {
+    fn write(&self, text: &mut String) -> Result<(), AllocError> {
         for (number, count) in self.counts.iter().enumerate() {
             if *count > 0 {
                 let count = *count;
