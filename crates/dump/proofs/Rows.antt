@@ -1,10 +1,9 @@
 -- Rows of cells, one after another, and the lines that stand for them.
-use Rattle.std.proofs.Common.{◌≡◌, ℕ, zero, suc, ◌+◌, ◌-◌, ◌/◌, ◌<◌, ◌≤◌, min, Bool, true, false, cond, ◌&&◌, eqb, ◌⊎◌, List, [], ◌∷◌, ◌++◌, length, get_or, take, drop, sym, refl, ap, ◌∙◌, inl, inr, arith, length-drop, length-take}
+use Rattle.std.proofs.Common.{◌≡◌, ℕ, suc, ◌+◌, ◌-◌, ◌/◌, ◌<◌, ◌≤◌, min, true, false, cond, eqb, List, [], ◌∷◌, length, get_or, take, drop, sym, refl, ap, ◌∙◌, inl, inr, arith, length-drop}
 use Rattle.std.proofs.lemmas.List.{drop_more, drop-drop, drop_all, take_all}
-use Rattle.std.proofs.lemmas.List.Edits.{length-between}
 use Rattle.std.proofs.lemmas.Bool.{cases_eq, cases_lt, eq-eqb, ne_eqb}
 use Rattle.std.specs.List.{between}
-use Rattle.dump.specs.Lines.{cut, rows_of, all_zero, Line, zeros, words, zeros_before, lines_from}
+use Rattle.dump.specs.Lines.{cut, rows_of, all_zero, Line, zeros, words, zeros_before}
 
 pub between_first : (xs : List ℕ) (i j : ℕ) → i < j → j ≤ length xs → between i j xs ≡ get_or xs i 0 ∷ between (i + 1) j xs
 between_first xs i j below within =

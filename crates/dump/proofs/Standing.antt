@@ -1,8 +1,8 @@
 -- The lines of a memory stand for its cells.
-use Rattle.std.proofs.Common.{◌≡◌, ℕ, zero, suc, ◌+◌, ◌/◌, ◌<◌, ◌≤◌, true, false, eqb, List, [], ◌∷◌, ◌++◌, length, take, drop, replicate, sym, refl, ap, ◌∙◌, subst, append_assoc, arith, length-drop, length-take}
+use Rattle.std.proofs.Common.{◌≡◌, ℕ, zero, suc, ◌+◌, ◌/◌, ◌<◌, ◌≤◌, true, eqb, List, [], ◌∷◌, ◌++◌, length, take, drop, replicate, sym, refl, ap, ◌∙◌, subst, append_assoc, arith, length-drop, length-take}
 use Rattle.std.proofs.lemmas.List.{take-append-drop, replicate-append-replicate, nil_from_length}
 use Rattle.std.proofs.lemmas.Bool.{and_parts, eqb-true, cond_both}
-use Rattle.dump.specs.Lines.{cut, rows_of, all_zero, Line, zeros, words, zeros_before, lines_from, lines_of, Worded, StandFor}
+use Rattle.dump.specs.Lines.{cut, all_zero, Line, zeros, words, zeros_before, lines_from, lines_of, StandFor}
 
 zeros_are : (row : List ℕ) → all_zero row ≡ true → row ≡ replicate (length row) 0
 zeros_are [] e = refl

@@ -8,7 +8,7 @@ use Rattle.memory.specs.declared.width.Width.{Width}
 use Rattle.memory.specs.declared.width.Width.TheVariants.{Two, Four, Eight}
 use Rattle.memory.specs.Bytes.{width_of, top_of, count_of, cells_of, rest_of}
 use Rattle.memory.specs.Bounds.{length_words}
-use Rattle.dump.specs.Lines.{all_zero, rows_of, Line, zeros, words, lines_from, lines_of}
+use Rattle.dump.specs.Lines.{all_zero, rows_of, Line, zeros, lines_from, lines_of}
 use Rattle.dump.specs.Page.{newline, unless_none, span_text, zeros_text, words_text, row_text, line_text, lines_text, head_text, left_text, image_text}
 use Rattle.dump.proofs.Rows.{between_first, between_end, rows_more, pending, pending_zeros}
 

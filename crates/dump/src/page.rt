@@ -34,7 +34,12 @@ impl fmt::Display for Plural {
 }
 
 /// Appends the line that tells how many cells there are and what they take.
-pub(crate) fn write_head(text: &mut String, cells: u64, bytes: u64, top: u64) -> Result<(), AllocError>
+pub(crate) fn write_head(
+    text: &mut String,
+    cells: u64,
+    bytes: u64,
+    top: u64,
+) -> Result<(), AllocError>
     ensures { OnOk result (string_bytes text.new ≡ string_bytes text.old ++ head_text cells bytes top) }
 {
     let s = Plural(cells);
@@ -110,7 +115,12 @@ fn all_zero<M: Memory>(memory: &M, first: u64, end: u64) -> bool
 }
 
 /// Appends the line of a row, the cells from `first` on, before `end`.
-fn write_row<M: Memory>(text: &mut String, memory: &M, first: u64, end: u64) -> Result<(), AllocError>
+fn write_row<M: Memory>(
+    text: &mut String,
+    memory: &M,
+    first: u64,
+    end: u64,
+) -> Result<(), AllocError>
     requires { (first < end) × (end ≤ length (M.cells memory.now)) }
     ensures { OnOk result (string_bytes text.new ≡ string_bytes text.old ++ row_text first (between first end (M.cells memory.now))) }
 {

@@ -1,14 +1,13 @@
 -- A row of cells that are a few bytes each.
-use Rattle.std.proofs.Common.{◌≡◌, ℕ, zero, suc, ◌+◌, ◌-◌, ◌*◌, ◌/◌, ◌%◌, ◌^◌, ◌<◌, ◌≤◌, min, List, [], ◌∷◌, ◌++◌, length, get_or, take, drop, set, sym, refl, ap, ◌∙◌, subst, append_assoc, mul-le-mul_right, suc-mul, div-lt_iff_lt-mul, mul-le-mul, add_comm, pow-suc, zero-add, zero-mul, div-mul-le_self, arith, lit<, lit≤, length-append, length-drop, length-take, drop-drop, take_at, take-add, drop_at, rules}
+use Rattle.std.proofs.Common.{◌≡◌, ℕ, zero, suc, ◌+◌, ◌-◌, ◌*◌, ◌/◌, ◌%◌, ◌^◌, ◌<◌, ◌≤◌, min, List, [], ◌∷◌, ◌++◌, length, get_or, take, drop, set, sym, refl, ap, ◌∙◌, append_assoc, mul-le-mul_right, suc-mul, div-lt_iff_lt-mul, add_comm, pow-suc, zero-mul, div-mul-le_self, arith, lit<, length-append, length-drop, length-take, drop-drop, take_at, take-add, drop_at}
 use borrow.Rule.Slice.PartMut.{put_mid}
-use native.Mathlib.Nat.{pow-succ', mod-add-div, div-div-eq-div-mul}
+use native.Mathlib.Nat.{mod-add-div, div-div-eq-div-mul}
 use Rattle.std.proofs.lemmas.List.{drop_all}
 use Rattle.std.proofs.lemmas.Slice.{take-put_mid_below, drop-put_mid}
 use Rattle.memory.specs.declared.width.Width.{Width}
-use Rattle.memory.specs.declared.width.Width.TheVariants.{Two, Four, Eight}
 use Rattle.memory.specs.Bounds.{length_words}
 use Rattle.memory.specs.Meaning.{lent}
-use Rattle.memory.specs.Bytes.{width_of, top_of, value, words, count_of, cells_of, rest_of}
+use Rattle.memory.specs.Bytes.{width_of, value, words, count_of, cells_of, rest_of}
 
 -- ---- the number that bytes write
 

@@ -1,11 +1,11 @@
 -- Two rows, one after the other.
-use Rattle.std.proofs.Common.{◌≡◌, ℕ, ◌-◌, ◌<◌, ◌≤◌, min, List, ◌++◌, length, get_or, take, drop, set, sym, refl, ap, ◌∙◌, arith, length-append, length-set, take_at, drop_at}
+use Rattle.std.proofs.Common.{◌≡◌, ℕ, ◌-◌, ◌<◌, ◌≤◌, min, List, ◌++◌, length, get_or, set, sym, refl, ap, ◌∙◌, arith, length-append, length-set}
 use lib.Seq.{set-append_left}
 use Rattle.std.proofs.lemmas.List.{get_or_append_left, get_or-append_right, set-append_right}
 use Rattle.memory.specs.Meaning.{Outside, pair}
 use Rattle.memory.specs.Row.{front, beyond, written}
 use Rattle.memory.proofs.Rows.{written_in}
-use Rattle.memory.proofs.Words.{within, whole, set_front, set_beyond}
+use Rattle.memory.proofs.Words.{within, set_front, set_beyond}
 
 -- a cell of both that is not the first one's is one of the second's
 pub in_second : (a b : List ℕ) (cell : ℕ) → cell < length (front (a ++ b)) → length a ≤ cell → cell - length a < length b

@@ -1,5 +1,5 @@
 -- Each kind of memory keeps the bounds.
-use Rattle.std.specs.Prelude.{◌≡◌, ℕ, zero, suc, ◌/◌, ◌^◌, ◌<◌, ◌≤◌, min, List, ◌++◌, length, take, drop, refl}
+use Rattle.std.specs.Prelude.{◌≡◌, ℕ, zero, suc, ◌/◌, ◌^◌, ◌<◌, ◌≤◌, min, List, ◌++◌, length, drop, refl}
 use Rattle.std.proofs.Common.{arith, ap, length-take, lit<, lit≤}
 use Rattle.std.proofs.Math.Nat.{min-le_left}
 use Rattle.memory.specs.declared.width.Width.{Width}

@@ -1,5 +1,5 @@
 -- What one turn of the recursions over a label does: the letters that are left are one or more.
-use Rattle.std.proofs.Common.{◌≡◌, ℕ, zero, suc, ◌-◌, ◌<◌, eqb, ltb, ◌≢◌, sym, refl, arith, eq-eqb, ne_eqb}
+use Rattle.std.proofs.Common.{◌≡◌, ℕ, zero, suc, ◌-◌, ◌<◌, eqb, ltb, ◌≢◌, arith, eq-eqb, ne_eqb}
 use Rattle.order.specs.Label.{letter, rest, spells, leads}
 
 pub leads_apart : (n a b : ℕ) → 0 < n → letter a ≢ letter b → ltb (letter a) (letter b) ≡ leads n a b

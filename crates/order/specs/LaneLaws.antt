@@ -1,9 +1,9 @@
 -- Lane order shows the laws.
-use Rattle.std.specs.Prelude.{◌≡◌, ℕ, ◌+◌, ◌-◌, ◌/◌, ◌%◌, ◌<◌, ◌≤◌, Bool, true, false, cond, ◌⊎◌, ℤ, pos, negsuc, ◌≢◌, int_lt, nat_lt, refl}
+use Rattle.std.specs.Prelude.{◌≡◌, ℕ, ◌+◌, ◌-◌, ◌%◌, ◌<◌, true, ◌⊎◌, ◌≢◌, int_lt, nat_lt, refl}
 use Rattle.std.proofs.Common.{sym, ap, ◌∙◌, inl, inr, arith, ltb-true, ltb-false, lt-ltb, le-ltb}
 use Rattle.order.specs.Laws.{Ordered}
 use Rattle.order.specs.Lexical.{lexical, lexical_true, lexical_rest, lexical_less, compared, cases}
-use Rattle.order.specs.Lane.{lane_key, lane, signed, place, lane_before}
+use Rattle.order.specs.Lane.{lane_key, lane, signed, lane_before}
 
 -- how far a number of 32 bits lies above the lowest in two's complement
 abbrev raised : ℕ → ℕ

@@ -1,7 +1,6 @@
 -- Comparison by one number, and on equal ones by a further test.
-use Rattle.std.specs.Prelude.{◌≡◌, ℕ, ◌<◌, ◌≤◌, Bool, true, false, cond, ◌⊎◌, ◌==◌, nat_lt, refl}
+use Rattle.std.specs.Prelude.{◌≡◌, ℕ, ◌<◌, Bool, true, false, cond, ◌⊎◌, ◌==◌, nat_lt, refl}
 use Rattle.std.proofs.Common.{inl, inr, arith, ltb-true, ltb-false, lt-ltb, eqb-true, eq-eqb, ne_eqb}
-use Rattle.std.proofs.lemmas.Bool.{eqb-false}
 
 abbrev pub lexical : ℕ → ℕ → Bool → Bool
 lexical x y rest = cond (x == y) rest (nat_lt x y)

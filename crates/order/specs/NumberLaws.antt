@@ -1,5 +1,5 @@
 -- Number order shows the laws.
-use Rattle.std.specs.Prelude.{◌≡◌, ℕ, ◌<◌, ◌≤◌, true, ◌⊎◌, ◌≢◌, nat_lt}
+use Rattle.std.specs.Prelude.{◌≡◌, ℕ, true, ◌⊎◌, ◌≢◌, nat_lt}
 use Rattle.std.proofs.Common.{inl, inr, arith, ltb-true, lt-ltb, le-ltb}
 use Rattle.order.specs.Laws.{Ordered}
 use Rattle.order.specs.Lexical.{compared}

@@ -27,7 +27,7 @@ use Rattle.rules.proofs.Words.{encodes_same, encodes_as}
 use Rattle.rules.proofs.Events.{answer_of}
 use Rattle.rules.proofs.Inv.{Setting, World, Linked, Open, post_of, owed_in, Uses, first, Paid, Doing, SeatIn, Coded, Inv}
 use Rattle.rules.proofs.Rely.{doing_open}
-use Rattle.rules.proofs.Good.{owed, Good, StepLaws}
+use Rattle.rules.proofs.Good.{owed, StepLaws}
 use Rattle.rules.proofs.Steps.{Stepped, Seen, seen}
 use Rattle.rules.proofs.Releasing.{written, Update, released_good}
 

@@ -1,12 +1,12 @@
 -- The steps of a seat that holds no latch: look, copy, check, a latch step that is lost or worn, and the end.
-use Rattle.std.proofs.Common.{◌≡◌, ℕ, zero, suc, ◌+◌, ◌-◌, ◌%◌, ◌<◌, ◌≤◌, Bool, true, false, cond, ◌&&◌, T, eqb, ltb, ◌≢◌, [], ◌∷◌, get_or, Some, None, Option, sym, refl, ap, ◌∙◌, inl, inr, ⊎_elim, arith}
+use Rattle.std.proofs.Common.{◌≡◌, ℕ, zero, suc, ◌+◌, ◌%◌, ◌<◌, ◌≤◌, Bool, true, false, cond, ◌&&◌, T, eqb, ltb, ◌≢◌, [], ◌∷◌, get_or, Some, None, Option, sym, refl, ap, ◌∙◌, inl, inr, ⊎_elim, arith}
 use Rattle.std.proofs.lemmas.List.{get_or-set_same, get_or-set_other, length-set}
 use Rattle.std.proofs.lemmas.Bool.{cases_eq, cond_both, cond-true, eq-eqb, ne_eqb, eqb-true, eqb-false, ltb-true, ltb-false, lt-ltb}
 use Rattle.tree.specs.Node as N
 use Rattle.tree.specs.Tree as T
 use Rattle.tree.proofs.Stands.{tree_stands}
 use Rattle.tree.proofs.Walks.{good_at, uncovered, child_held}
-use Rattle.rules.specs.Nodes.{level, link, high, entries, covers, child, found}
+use Rattle.rules.specs.Nodes.{level, link, entries, covers, child, found}
 use Rattle.rules.specs.Seats.{in_phase, at_node, with_word}
 use Rattle.rules.specs.Steps.{version_in, version, answered, copy_next, accepts, arrives, stopped}
 use Rattle.rules.specs.Histories.{History, Step}

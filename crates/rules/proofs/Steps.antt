@@ -18,7 +18,7 @@ use Rattle.rules.specs.declared.seat.Seat.{Seat}
 use Rattle.rules.proofs.Cells.{lock}
 use Rattle.rules.proofs.Words.{encodes_same, Shows, shows}
 use Rattle.rules.proofs.Events.{untouched_other, answer_of, holds_own, since_own, begun_own, publishings_own, disturbed_later, disturbed_cases}
-use Rattle.rules.proofs.Inv.{Setting, World, Linked, Open, Begins, Doing, Reading, Hold, Taken, SeatIn, Coded, Inv}
+use Rattle.rules.proofs.Inv.{Setting, World, Linked, Open, Begins, Doing, Reading, Hold, SeatIn, Coded, Inv}
 use Rattle.rules.proofs.Rely.{begins_same}
 use Rattle.rules.proofs.Good.{holding, owed, Mine, Good, StepLaws, good_calm, holder_odd}
 

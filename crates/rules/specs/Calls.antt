@@ -1,5 +1,5 @@
 -- What each call answers and leaves, refusals too. Where several refusals hold, the one that is asked first decides.
-use Rattle.std.specs.Prelude.{ℕ, Bool, true, false, cond, ◌||◌, length, set, replicate, Ok, Err, Result, ◌==◌, nat_lt, slice_set}
+use Rattle.std.specs.Prelude.{ℕ, Bool, true, false, cond, ◌||◌, length, replicate, Ok, Err, Result, ◌==◌, nat_lt, slice_set}
 use Rattle.memory.specs.declared.fault.Fault.{Fault}
 use Rattle.rules.specs.Cells.{answers, leaves}
 use Rattle.rules.specs.Refusals.{of_fault}

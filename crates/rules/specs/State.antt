@@ -1,5 +1,5 @@
 -- The state of an index.
-use Rattle.std.specs.Prelude.{ℕ, zero, suc, ◌/◌, Bool, List, [], length, set, slice_index_or, slice_set}
+use Rattle.std.specs.Prelude.{ℕ, zero, suc, ◌/◌, Bool, List, [], length, slice_index_or, slice_set}
 use Rattle.rules.specs.Seats.{resting}
 use Rattle.rules.specs.declared.access.Extent.{Extent}
 use Rattle.rules.specs.declared.seat.Seat.{Seat}

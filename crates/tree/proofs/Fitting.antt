@@ -1,5 +1,5 @@
 -- No update leaves a node with more entries than the fan, and storing a pair or posting a split adds at most one entry.
-use Rattle.std.proofs.Common.{◌≡◌, ℕ, suc, ◌-◌, ◌≤◌, cond, eqb, List, [], ◌∷◌, length, sym, subst, arith, length-drop, length-take}
+use Rattle.std.proofs.Common.{◌≡◌, ℕ, suc, ◌≤◌, cond, eqb, List, [], ◌∷◌, length, sym, subst, arith, length-drop, length-take}
 use Rattle.std.proofs.lemmas.Bool.{cond_both}
 use Rattle.tree.specs.Node.{Entry, entry, insert, posted}
 use Rattle.tree.specs.Tree.{Order}

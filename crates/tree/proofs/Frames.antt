@@ -1,5 +1,5 @@
 -- What an update leaves as it was: a node that is not touched stays good if the nodes that it names stay where they are.
-use Rattle.std.proofs.Common.{◌≡◌, ℕ, zero, suc, ◌≤◌, ◌⊎◌, sym, refl, ap, ◌∙◌, subst, inl, inr, ⊎_elim, arith}
+use Rattle.std.proofs.Common.{◌≡◌, ℕ, zero, suc, ◌≤◌, sym, refl, ap, ◌∙◌, subst, inl, inr, ⊎_elim, arith}
 use Rattle.std.proofs.lemmas.Bool.{cases_eq}
 use Rattle.tree.specs.Node.{Node}
 use Rattle.tree.specs.Tree.{Order, Place, free, held, Is, Held, Root, Apart, Lower, ApartFrom, Good, Fine, Sound}

@@ -1,5 +1,5 @@
 -- A posting keeps the tree: the right part of a split becomes a child of the node above, and no key is lost or doubled.
-use Rattle.std.proofs.Common.{◌≡◌, ℕ, suc, ◌<◌, ◌≤◌, Bool, ◌⊎◌, List, [], ◌∷◌, Some, sym, ap, subst, ⊎_elim, arith}
+use Rattle.std.proofs.Common.{◌≡◌, ℕ, suc, ◌<◌, ◌≤◌, Bool, List, [], ◌∷◌, Some, sym, ap, subst, ⊎_elim, arith}
 use Rattle.std.proofs.lemmas.Bool.{cond_both, cases_eq}
 use Rattle.tree.specs.Node.{Entry, entry, Node, posted, with_entries}
 use Rattle.tree.specs.Tree.{Order, Place, free, held, Is, Held, ApartFrom, Key, Inner, Good, Fine, Sound, Tells, At, Kids, Pending}

@@ -1,5 +1,5 @@
 -- A lawful order on the words below a limit has ranks: the rank of a key is how many keys come before it.
-use Rattle.std.proofs.Common.{◌≡◌, ℕ, zero, suc, ◌<◌, ◌≤◌, Bool, true, false, cond, ◌&&◌, ltb, ◌⊎◌, sym, refl, ◌∙◌, subst, ⊎_elim, arith}
+use Rattle.std.proofs.Common.{◌≡◌, ℕ, zero, suc, ◌<◌, ◌≤◌, Bool, true, false, cond, ◌&&◌, ltb, sym, refl, ◌∙◌, subst, ⊎_elim, arith}
 use Rattle.std.proofs.lemmas.Bool.{lt-ltb, le-ltb, ltb-true, and_parts, and_from, and_right, cases_Bool, cases_eq, cond-true, cond-false, both_ways}
 use Rattle.order.specs.Laws.{Ordered}
 use Rattle.tree.specs.Tree.{Order}

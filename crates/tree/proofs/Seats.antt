@@ -1,5 +1,5 @@
 -- A seat that stands as it should starts at the root, goes on from a node that it has read, and stays through the updates of others.
-use Rattle.std.proofs.Common.{◌≡◌, ℕ, zero, suc, ◌-◌, Some, None, Option, refl, subst, arith}
+use Rattle.std.proofs.Common.{◌≡◌, ℕ, zero, suc, Some, None, Option, refl, subst, arith}
 use Rattle.std.proofs.lemmas.Bool.{ltb-true, ltb-false}
 use Rattle.tree.specs.Tree.{Order, Place, At, Aims}
 use Rattle.tree.specs.Updates.{Kept}

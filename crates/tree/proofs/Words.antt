@@ -1,5 +1,5 @@
 -- The words of the nodes stay within the top word, and the linked nodes within those in use.
-use Rattle.std.proofs.Common.{◌≡◌, ℕ, zero, suc, ◌-◌, ◌<◌, ◌≤◌, cond, eqb, ◌⊎◌, List, [], ◌∷◌, take, drop, sym, subst, ⊎_elim, arith}
+use Rattle.std.proofs.Common.{◌≡◌, ℕ, zero, suc, ◌<◌, ◌≤◌, cond, eqb, List, [], ◌∷◌, take, drop, sym, subst, ⊎_elim, arith}
 use Rattle.std.proofs.lemmas.Bool.{cond_both, cases_lt}
 use Rattle.tree.specs.Node.{Entry, entry, insert, posted, last_key}
 use Rattle.tree.specs.Tree.{Order, Is, At}

@@ -1,4 +1,4 @@
-use Rattle.std.proofs.Common.{◌≡◌, sym, ap, ◌∙◌, arith}
+use Rattle.std.proofs.Common.{◌≡◌, ap, ◌∙◌, arith}
 use Rattle.memory.proofs.Words.{lent_rest}
 use Rattle.lender.specs.Stored.{stored, stored_second}
 use Rattle.lender.proofs.Storing.{stored_joined, outside_first, outside_second}

@@ -1,4 +1,4 @@
-use Rattle.std.proofs.Common.{◌≡◌, ◌++◌, length, drop, replicate}
+use Rattle.std.proofs.Common.{◌≡◌, ◌++◌, drop, replicate}
 use Rattle.lender.proofs.wipe.Given as goal
 
 abbrev pub invariant-loop-cell : goal.invariant-loop-cell

@@ -1,4 +1,4 @@
-use Rattle.std.proofs.Common.{refl, arith, rules}
+use Rattle.std.proofs.Common.{refl, arith}
 use Rattle.dump.proofs.nodes.index_text.Goals as goal
 
 pub returns-in-Err : goal.returns-in-Err

@@ -1,4 +1,4 @@
-use Rattle.std.proofs.Common.{◌≡◌, ◌+◌, ◌*◌, ◌<◌, ◌++◌, length, get_or, take, drop, set, replicate, sym, refl, ap, ◌∙◌, add-one, arith}
+use Rattle.std.proofs.Common.{◌≡◌, ◌++◌, get_or, take, drop, set, replicate, sym, refl, ap, ◌∙◌, add-one, arith}
 use Rattle.dump.specs.Nodes.{node_words}
 use Rattle.dump.proofs.Listing.{taken_more, node_length, node_word, all_taken}
 use Rattle.dump.proofs.nodes.words_of.Goals as goal

@@ -1,4 +1,4 @@
-use Rattle.std.proofs.Common.{sym, ◌∙◌, arith}
+use Rattle.std.proofs.Common.{sym, ◌∙◌}
 use Rattle.dump.proofs.Rows.{zero_more, zero_stop}
 use Rattle.dump.proofs.page.all_zero.Goals as goal
 

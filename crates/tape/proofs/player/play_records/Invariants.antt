@@ -1,4 +1,4 @@
-use Rattle.std.proofs.Common.{◌≡◌, ◌+◌, ◌-◌, ◌/◌, ◌<◌, ◌≤◌, ◌++◌, length, vec_items, vec_len, vec_capacity}
+use Rattle.std.proofs.Common.{◌≡◌, ◌+◌, ◌/◌, ◌<◌, ◌≤◌, ◌++◌, length, vec_items, vec_len, vec_capacity}
 use Rattle.index.specs.Views.{view}
 use Rattle.tape.proofs.Playing.{left_to_play}
 use Rattle.tape.proofs.player.play_records.Given as goal

@@ -1,4 +1,4 @@
-use Rattle.std.proofs.Common.{◌∙◌, arith}
+use Rattle.std.proofs.Common.{◌∙◌}
 use Rattle.memory.specs.Bounds.{length_words}
 use Rattle.memory.proofs.Bytewise.{bytes_read}
 use Rattle.memory.proofs.byte.ByteMemory.get.Goals as goal

@@ -1,4 +1,4 @@
-use Rattle.std.proofs.Common.{◌≡◌, length, refl, arith, length-drop, length-take, rules}
+use Rattle.std.proofs.Common.{◌≡◌, length, refl, arith, length-drop, length-take}
 use Rattle.memory.specs.Bounds.{length_words}
 use Rattle.memory.proofs.Bytewise.{bytes_write}
 use Rattle.memory.proofs.byte.ByteMemory.put.Goals as goal

@@ -1,5 +1,5 @@
-use Rattle.std.proofs.Common.{◌-◌, ◌<◌, ◌≤◌, min, ◌++◌, length, ap, ◌∙◌, arith, rules}
-use Rattle.memory.specs.Row.{front, written}
+use Rattle.std.proofs.Common.{◌-◌, ◌<◌, ◌≤◌, length, ap, ◌∙◌, arith, rules}
+use Rattle.memory.specs.Row.{written}
 use Rattle.memory.proofs.Joining.{in_second, write_first, write_second}
 use Rattle.memory.proofs.joined.Joined.put.Goals as goal
 
