@@ -9,6 +9,7 @@ mod reader;
 
 use program::printed;
 use std::io::Read;
+use std::process::ExitCode;
 
 /// A tape has at most 4,096 bytes, so no more than one byte past them is read.
 const READ: u64 = 4097;
@@ -22,12 +23,14 @@ fn run(rt: &HostRuntime) -> anyhow::Result<()> {
     Ok(())
 }
 
-fn main(rt: HostRuntime) -> anyhow::Result<()> {
-    let done = run(&rt);
-    if let Err(error) = &done {
-        let _ = eprintln!(rt; "tape: {error}");
+fn main(rt: HostRuntime) -> ExitCode {
+    match run(&rt) {
+        Ok(()) => ExitCode::SUCCESS,
+        Err(error) => {
+            let _ = eprintln!(rt; "tape: {error}");
+            ExitCode::FAILURE
+        }
     }
-    done
 }
 
 #[cfg(test)]
