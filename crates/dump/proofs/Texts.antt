@@ -98,7 +98,7 @@ counted width bytes = length_words (width_of width) (count_of width bytes) bytes
 
 -- the memory over an image has the image's width and bytes, w and bs
 pub cells_counted : (width w : Width) (bytes bs : List ℕ) (count : ℕ) → w ≡ width → bs ≡ bytes → count ≡ length (cells_of w bs) → count ≡ count_of width bytes
-cells_counted width w bytes bs count same_width same_bytes c = c ∙ (λ i. length (cells_of (same_width i) (same_bytes i))) ∙ counted width bytes
+cells_counted width w bytes bs _ same_width same_bytes c = c ∙ (λ i. length (cells_of (same_width i) (same_bytes i))) ∙ counted width bytes
 
 module _ (width w : Width) (bytes bs : List ℕ) (count each : ℕ) (same_width : w ≡ width) (same_bytes : bs ≡ bytes) (c : count ≡ length (cells_of w bs)) (e : each ≡ width_of width) where
   number : count ≡ count_of width bytes
