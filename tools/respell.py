@@ -4,9 +4,10 @@
     python3 tools/respell.py          at the top of the repository, once, after the kit's port.py
 
 It goes by text: a name with a dash, or with a hump, that a file of specs/ or proofs/ defines (or brings in under such a name
-by `as`) gets the new spelling wherever it is cited, in .antt files, in the clauses of .rt files and between backticks in
-comments. Names that Rattle makes of the code (goals, steps) and the library's names stay. Two names that would fall together
-are told, and nothing is written.
+by `as`) gets the new spelling wherever it stands: in .antt files, in .rt files outside of strings, and in comments between
+backticks. A name behind a dot is turned if it is a field of a record at the top of a file, or stands behind a module.
+Names that Rattle makes of the code (goals, steps) and the library's names stay. Two names that would fall together are
+told, and nothing is written.
 """
 
 import os
@@ -23,7 +24,7 @@ PARAMETERS = re.compile(r"[({]((?:" + NAME + r" )+): ")
 RENAMED = re.compile(r"\bas (" + NAME + r")\b")
 # the library's own names, which a proof may bring in
 KEPT = {"add-zero", "zero-add", "add-one"}
-# what a script before this one made of an older name of the library
+# an older name of the library at the head of ours, as it was and as the kit's script had turned it
 OLDER = (("getD-", "get_or_"), ("get_d_", "get_or_"))
 
 

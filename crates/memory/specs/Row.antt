@@ -19,7 +19,7 @@ abbrev pub guarded : {A : Type 0} → List ℕ → ℕ → ℕ → ℕ → A →
 guarded row top cell word told = cond (nat_lt cell (length row)) (cond (nat_lt top word) (Err TooWide) (Ok told)) (Err NoCell)
 
 -- the row after a write: the cell holds the word, every other cell what it held. A word above the top word is not
--- stored, and neither is one for a cell outside the row, past which `set` changes nothing
+-- stored, and neither is one for a cell outside the row, past which `slice_set` changes nothing
 abbrev pub written : List ℕ → ℕ → ℕ → ℕ → List ℕ
 written row top cell word = cond (nat_lt top word) row (slice_set row cell word)
 

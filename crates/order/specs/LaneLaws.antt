@@ -9,8 +9,8 @@ use Rattle.order.specs.Lane.{lane_key, lane, signed, lane_before}
 abbrev raised : ℕ → ℕ
 raised n = (n + 2147483648) % 4294967296
 
-ltb_same : (a b c d : ℕ) → (a < b → c < d) → (c < d → a < b) → nat_lt a b ≡ nat_lt c d
-ltb_same a b c d f g =
+nat_lt_same : (a b c d : ℕ) → (a < b → c < d) → (c < d → a < b) → nat_lt a b ≡ nat_lt c d
+nat_lt_same a b c d f g =
     elim (cases (nat_lt a b)) [
       | inl h ↦ h ∙ sym (lt-ltb c d (f (ltb-true a b h)))
       | inr h ↦ elim (cases (nat_lt c d)) [
@@ -23,12 +23,12 @@ signed_raised : (x y : ℕ) → x < 4294967296 → y < 4294967296 → int_lt (si
 signed_raised x y p q =
     elim (cases (nat_lt x 2147483648)) [
       | inl h ↦ elim (cases (nat_lt y 2147483648)) [
-        | inl k ↦ (let a = ltb-true x 2147483648 h in let b = ltb-true y 2147483648 k in rw (h, k) (ltb_same x y (raised x) (raised y) (λ l. omega arith) (λ l. omega arith)))
+        | inl k ↦ (let a = ltb-true x 2147483648 h in let b = ltb-true y 2147483648 k in rw (h, k) (nat_lt_same x y (raised x) (raised y) (λ l. omega arith) (λ l. omega arith)))
         | inr k ↦ (let a = ltb-true x 2147483648 h in let b = ltb-false y 2147483648 k in rw (h, k) (sym (le-ltb (raised x) (raised y) (omega arith))))
       ]
       | inr h ↦ elim (cases (nat_lt y 2147483648)) [
         | inl k ↦ (let a = ltb-false x 2147483648 h in let b = ltb-true y 2147483648 k in rw (h, k) (sym (lt-ltb (raised x) (raised y) (omega arith))))
-        | inr k ↦ (let a = ltb-false x 2147483648 h in let b = ltb-false y 2147483648 k in rw (h, k) (ltb_same (4294967295 - y) (4294967295 - x) (raised x) (raised y) (λ l. omega arith) (λ l. omega arith)))
+        | inr k ↦ (let a = ltb-false x 2147483648 h in let b = ltb-false y 2147483648 k in rw (h, k) (nat_lt_same (4294967295 - y) (4294967295 - x) (raised x) (raised y) (λ l. omega arith) (λ l. omega arith)))
       ]
     ]
 

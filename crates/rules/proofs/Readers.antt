@@ -180,7 +180,7 @@ module _ {σ : Setting} {W : World} {f : ℕ → Seat} {h : History} (ι : Inv �
     covers_is : covers σ.order.before (f s).copy (f s).key ≡ N.covers σ.order.before looked_at.node_is (f s).key
     covers_is = rw (looked_at.shown.link_is, looked_at.shown.high_is) refl
 
-    goes_on : T.Goes_on σ.order W.tree looked_at.node_is looked_at.from looked_at.to (post_of (f s).operation) (f s).key (f s).aim
+    goes_on : T.GoesOn σ.order W.tree looked_at.node_is looked_at.from looked_at.to (post_of (f s).operation) (f s).key (f s).aim
     goes_on = (tree_stands σ.order).seats_go_on W.tree (f s).node looked_at.node_is looked_at.from looked_at.to (post_of (f s).operation) (f s).key (f s).aim
         ι.nodes.sound looked_at.at_is k.0.seated
 

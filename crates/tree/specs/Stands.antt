@@ -2,7 +2,7 @@
 use Rattle.std.specs.Prelude.{◌≡◌, ℕ, suc, ◌<◌, ◌≤◌, Bool, true, false, ◌&&◌, List, length, take, Some, None, Option, ◌≢◌, nat_lt}
 use Rattle.order.specs.Laws.{Ordered}
 use Rattle.tree.specs.Node.{Entry, Node, lookup, last_key, covers, child, insert, posted}
-use Rattle.tree.specs.Tree.{Order, Place, free, held, Held, Key, Sound, Answers, At, Pending, Seated, Goes_on, Formatted}
+use Rattle.tree.specs.Tree.{Order, Place, free, held, Held, Key, Sound, Answers, At, Pending, Seated, GoesOn, Formatted}
 use Rattle.tree.specs.Updates.{Rewrites, Splits, Rises, Overflows, Grows, Takes, Kept, rewritten, overflowed, grew, taken, Fits, half, Small, Words}
 
 -- each lawful order has ranks on the words below a limit
@@ -43,7 +43,7 @@ module _ (o : Order) where
 
   -- a seat goes on from its node
   abbrev pub SeatsGoOn : Type 0
-  SeatsGoOn = (g : ℕ → Place) (n : ℕ) (y : Node) (a b : ℕ) (post : Option ℕ) (k aim : ℕ) → Sound o g → g n ≡ held y a b → Seated o g post k aim n → Goes_on o g y a b post k aim
+  SeatsGoOn = (g : ℕ → Place) (n : ℕ) (y : Node) (a b : ℕ) (post : Option ℕ) (k aim : ℕ) → Sound o g → g n ≡ held y a b → Seated o g post k aim n → GoesOn o g y a b post k aim
 
   -- the single updates: storing a pair in a leaf, posting a split in an inner node, splitting a node, and the root's rise
   abbrev pub StoringKeeps : Type 0

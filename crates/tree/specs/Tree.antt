@@ -122,7 +122,7 @@ module _ (o : Order) where
     pub aims : Aims g post k aim
 
   -- where a seat may stand after it has seen the content of its node
-  pub record Goes_on (g : ℕ → Place) (y : Node) (a b : ℕ) (post : Option ℕ) (k aim : ℕ) : Type 0 where
+  pub record GoesOn (g : ℕ → Place) (y : Node) (a b : ℕ) (post : Option ℕ) (k aim : ℕ) : Type 0 where
     pub right : covers o.before y k ≡ false → Seated g post k aim y.link
     pub down : covers o.before y k ≡ true → nat_lt aim y.level ≡ true → Seated g post k aim (child o.before y.entries k)
     pub there : covers o.before y k ≡ true → nat_lt aim y.level ≡ false → (y.level ≡ aim) × (a ≤ o.rank k) × (o.rank k < b)
