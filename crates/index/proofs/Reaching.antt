@@ -1,6 +1,6 @@
 -- An access that no memory can make is refused.
-use Rattle.std.proofs.Common.{◌≡◌, ℕ, ◌≤◌, Bool, true, false, cond, eqb, ltb, List, length, Some, None, Option, Ok, Err, Result, sym, refl, ap, ◌∙◌, arith}
-use Rattle.std.proofs.lemmas.Bool.{le-ltb}
+use Rattle.std.proofs.Common.{◌≡◌, ℕ, ◌<◌, ◌≤◌, Bool, true, false, cond, eqb, ltb, List, length, Some, None, Option, Ok, Err, Result, sym, refl, ap, ◌∙◌, arith}
+use Rattle.std.proofs.lemmas.Bool.{le-ltb, ne_eqb}
 use Rattle.memory.specs.declared.fault.Fault.{Fault}
 use Rattle.memory.specs.declared.fault.Fault.TheVariants.{NoCell}
 use Rattle.rules.specs.Calls.{due, due_in, step, step_by, answered_by}
@@ -8,6 +8,7 @@ use Rattle.rules.specs.Cells.{answers}
 use Rattle.rules.specs.State.{State, seat_at, extent_of}
 use Rattle.rules.specs.Steps.{access_of}
 use Rattle.rules.specs.declared.access.Access.{Access}
+use Rattle.rules.specs.declared.access.Extent.{Extent}
 use Rattle.rules.specs.declared.access.Access.TheVariants.{Read, Write, Swap}
 use Rattle.rules.specs.declared.refusal.Refusal.TheVariants as refusal
 use Rattle.rules.specs.declared.seat.Phase.{Phase}
@@ -37,21 +38,24 @@ due_in_busy phase.Release a h = refl
 due_in_busy phase.Undo a h = refl
 due_in_busy (phase.End o) a h = refl
 
-placed_where : (a b : Bool) (i j : ℕ) → Ok j ≡ cond a (Err refusal.Unformatted) (cond b (Ok i) (Err refusal.NoSeat)) → (a ≡ false) × (b ≡ true) × (j ≡ i)
-placed_where true b i j e = let z : ◌≡◌ {A = ℕ} 0 1 = cc in absurd (omega arith)
-placed_where false true i j e = (refl, refl, cc)
-placed_where false false i j e = let z : ◌≡◌ {A = ℕ} 0 1 = cc in absurd (omega arith)
+placed_where : (b : Bool) (i j : ℕ) → Ok j ≡ cond b (Ok i) (Err refusal.NoSeat) → (b ≡ true) × (j ≡ i)
+placed_where true i j e = (refl, cc)
+placed_where false i j e = let z : ◌≡◌ {A = ℕ} 0 1 = cc in absurd (omega arith)
 
-module _ (st : State) (i j : ℕ) (at : Ok j ≡ placed st i) (busy : (seat_at st.seats j).phase ≡ phase.Idle → ⊥) where
-  due_busy : due st i ≡ Ok (access_of (extent_of st) (seat_at st.seats j))
+module _ (st : State) (i j : ℕ) (x : Extent) (formatted : 0 < st.fan) (at : Ok j ≡ placed i) (seen : x ≡ extent_of st)
+    (busy : (seat_at st.seats j).phase ≡ phase.Idle → ⊥) where
+  pub due_busy : due st i ≡ Ok (access_of x (seat_at st.seats j))
   due_busy =
-      let p = placed_where (eqb st.fan 0) (ltb i 8) i j at in
-      let f : eqb st.fan 0 ≡ false = p.0 in
-      let l : ltb i 8 ≡ true = p.1 in
-      let same : i ≡ j = sym p.2 in
-      rw (f, l, same) (due_in_busy _ _ busy)
+      let p = placed_where (ltb i 8) i j at in
+      let f : eqb st.fan 0 ≡ false = ne_eqb st.fan 0 (omega arith) in
+      let l : ltb i 8 ≡ true = p.0 in
+      let same : i ≡ j = sym p.1 in
+      rw (f, l, same, seen) (due_in_busy _ _ busy)
 
-  pub step_beyond : length st.cells ≤ 65536 → Beyond (access_of (extent_of st) (seat_at st.seats j)) → step st i ≡ (Err refusal.NoCell, st)
+  pub step_beyond : length st.cells ≤ 65536 → Beyond (access_of x (seat_at st.seats j)) → step st i ≡ (Err refusal.NoCell, st)
   step_beyond short h =
-      let a = access_of (extent_of st) (seat_at st.seats j) in
+      let a = access_of x (seat_at st.seats j) in
       ap (step_by st i) due_busy ∙ ap (answered_by st i a) (beyond_refused st.cells st.top short a h)
+
+pub placed_at : (i j : ℕ) → Ok j ≡ placed i → j ≡ i
+placed_at i j at = (placed_where (ltb i 8) i j at).1
