@@ -1,15 +1,17 @@
 //! The accesses to the memory.
-ghost use Rattle.std.specs.Prelude.{◌≡◌, ◌+◌, ◌/◌, ◌≤◌, length, if◌then◌else◌, Some, None, MatchResult, OnErr, nat_lt};
+ghost use Rattle.std.specs.Prelude.{◌≡◌, ◌+◌, ◌/◌, ◌≤◌, length, if◌then◌else◌, ◌⊎◌, Ok, Err, Some, None, MatchResult, OnErr, nat_lt};
 ghost use Rattle.memory.specs.declared.fault.Fault.TheVariants.{NoCell};
+ghost use Rattle.rules.specs.Calls.{due_in};
 ghost use Rattle.rules.specs.Cells.{answers, leaves};
 ghost use Rattle.rules.specs.Nodes.{cell_of};
 ghost use Rattle.rules.specs.State.{zeroed};
 ghost use Rattle.rules.specs.Steps.{version, access_of};
+ghost use Rattle.rules.specs.declared.refusal.Refusal.TheVariants as refusal;
 ghost use Rattle.index.specs.Reach.{Beyond};
 
 use memory::{Fault, LONGEST, Memory};
 use node::fill_word;
-use rules::{Access, Extent, Phase, Seat};
+use rules::{Access, Extent, Phase, Refusal, Seat};
 
 /// What a step takes of the index beside its cells and the seat.
 pub fn extent<M: Memory>(memory: &M, fan: u8) -> Extent
@@ -43,9 +45,10 @@ pub fn freeing(seat: &Seat, top: u64) -> Option<u64>
     }
 }
 
-/// The access that a seat's next step makes, if it makes one.
-pub fn access(seat: &Seat, extent: Extent) -> Result<Option<Access>, Fault>
-    ensures { MatchResult result (λ a. a ≡ access_of extent seat.now) (λ f. (f ≡ NoCell) × Beyond (access_of extent seat.now)) }
+/// The access that is due at a seat, if its next step makes one. It is refused as the rules say, or where no memory has
+/// the cell.
+pub fn access(seat: &Seat, extent: Extent) -> Result<Option<Access>, Refusal>
+    ensures { MatchResult result (λ a. due_in seat.now.phase (access_of extent seat.now) ≡ Ok a) (λ r. (due_in seat.now.phase (access_of extent seat.now) ≡ Err r) ⊎ ((r ≡ refusal.NoCell) × Beyond (access_of extent seat.now))) }
 {
     Ok(Some(match seat.phase {
         Phase::Look | Phase::Check => Access::Read(cell(seat.node, 0)?),
@@ -69,7 +72,8 @@ pub fn access(seat: &Seat, extent: Extent) -> Result<Option<Access>, Fault>
             cell: cell(seat.node, 0)?,
             word: seat.draft.freeing,
         },
-        Phase::Idle | Phase::Take | Phase::End(_) => return Ok(None),
+        Phase::Take | Phase::End(_) => return Ok(None),
+        Phase::Idle => return Err(Refusal::Idle),
     }))
 }
 

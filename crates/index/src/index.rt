@@ -152,9 +152,6 @@ impl<M: Memory, O: Order> Index<M, O> {
             return Err(Refusal::Unformatted);
         };
         let at = place(seat)?;
-        if let Phase::Idle = self.seats[at].phase {
-            return Err(Refusal::Idle);
-        }
         let access = access(&self.seats[at], extent(&self.memory, fan.entries))?;
         let word = perform(&mut self.memory, access)?;
         let lent = &mut self.seats[at];

@@ -106,12 +106,13 @@ pub fn copy(seat: &mut Seat, at: u8, word: u64) -> Report
     ensures after { seat.new ≡ with_word seat.old at word (copy_next at) }
     ensures report { result ≡ GoneOn seat.old.node }
 {
-    seat.phase = if at < 31 {
-        Phase::Copy { next: at + 1 }
+    if at < 31 {
+        seat.copy[at as usize] = word;
+        seat.phase = Phase::Copy { next: at + 1 };
     } else {
-        Phase::Check
-    };
-    keep(&mut seat.copy, at, word);
+        keep(&mut seat.copy, at, word);
+        seat.phase = Phase::Check;
+    }
     Report::GoneOn(seat.node)
 }
 

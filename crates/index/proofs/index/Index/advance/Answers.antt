@@ -1,25 +1,22 @@
-use Rattle.std.proofs.Common.{◌≡◌, ◌<◌, [], Ok, Err, sym, refl, ap, ◌∙◌, arith}
+use Rattle.std.proofs.Common.{◌≡◌, ◌<◌, [], sym, refl, ◌∙◌, arith}
 use Rattle.std.proofs.lemmas.List.{set-get_or}
 use Rattle.std.proofs.lemmas.Result.{err_from_is_err_and}
-use Rattle.rules.specs.Refusals.{of_fault}
 use Rattle.rules.specs.Seats.{resting}
 use Rattle.rules.specs.State.{extent_of}
 use Rattle.index.specs.Views.{view, fan_of}
-use Rattle.index.proofs.Reaching.{due_busy, placed_at, step_beyond}
+use Rattle.index.proofs.Reaching.{due_seated, placed_at, step_refused}
 use Rattle.index.proofs.Stepping.{stepped}
 use Rattle.index.proofs.index.Index.advance.Goals as goal
 
 pub returns-in_err-access-clause-rule : goal.returns-in_err-access-clause-rule
 returns-in_err-access-clause-rule g c =
-    let p = err_from_is_err_and c.from_residual-in_err-access.result c.from_residual-in_err-access.ensures.1 in
     let st = view g.M.Memory g.O.Order c.args.self.now in
     let some : 0 < fan_of c.args.self.now.fan = rw c.in-Some.is (omega arith) in
     let seen : c.extent.result ≡ extent_of st = rw c.in-Some.is c.extent.ensures in
-    let h = c.in_err-access.ensures in
     let kept = set-get_or c.args.self.now.seats c.in_ok-at.at (resting [] []) in
+    let p = err_from_is_err_and c.from_residual-in_err-access.result c.from_residual-in_err-access.ensures.1 in
     rw (p.1, p.2, kept)
-    (ap (λ f. (Err (of_fault f), st)) h.0
-    ∙ sym (step_beyond st c.args.seat c.in_ok-at.at c.extent.result some c.in_ok-at.ensures seen c.in_default-phase.not-Idle (g.M.Memory.bounded c.args.self.now.memory).short h.1))
+    (sym (step_refused st c.args.seat c.in_ok-at.at c.extent.result some c.in_ok-at.ensures seen _ (g.M.Memory.bounded c.args.self.now.memory).short c.in_err-access.ensures))
 
 pub returns : goal.returns
 returns g c =
@@ -28,9 +25,8 @@ returns g c =
     let after = c.perform.new.memory in
     let some : 0 < fan_of c.args.self.now.fan = rw c.in-Some.is (omega arith) in
     let seen : c.extent.result ≡ extent_of st = rw c.in-Some.is c.extent.ensures in
-    let same = placed_at c.args.seat c.in_ok-at.at c.in_ok-at.ensures in
-    let due = due_busy st c.args.seat c.in_ok-at.at c.extent.result some c.in_ok-at.ensures seen c.in_default-phase.not-Idle ∙ ap Ok (sym c.in_ok-access.ensures) in
     let kept = set-get_or c.args.self.now.seats c.in_ok-at.at (resting [] []) in
+    let due = due_seated st c.args.seat c.in_ok-at.at c.extent.result some c.in_ok-at.ensures seen ∙ c.in_ok-access.ensures in
     let went = rw kept at c.go_on.ensures in
     let fan : c.in-Some.fan.entries ≡ st.fan = rw c.in-Some.is refl in
     record {
@@ -38,6 +34,6 @@ returns g c =
           rw kept
           (stepped st c.args.seat c.in_ok-at.at c.in_ok-access.access c.in_ok-word.word (m.cells after) c.in-Some.fan.entries (m.top after)
           c.go_on.new.count c.go_on.new.lent c.go_on.result
-          same due c.in_ok-word.ensures.answer c.perform.ensures.after fan c.perform.ensures.same went);
+          (placed_at c.args.seat c.in_ok-at.at c.in_ok-at.ensures) due c.in_ok-word.ensures.answer c.perform.ensures.after fan c.perform.ensures.same went);
       outside = c.perform.ensures.outside;
     }
