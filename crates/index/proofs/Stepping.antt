@@ -1,5 +1,5 @@
 -- A step, from its access and from how the seat goes on.
-use Rattle.std.proofs.Common.{◌≡◌, ℕ, ◌/◌, Bool, true, false, cond, eqb, ltb, List, length, get_or, set, Some, None, Option, Ok, sym, refl, ap, ◌∙◌, length-set}
+use Rattle.std.proofs.Common.{◌≡◌, ℕ, Bool, true, false, cond, eqb, ltb, List, length, get_or, set, Some, None, Option, Ok, sym, refl, ap, ◌∙◌, length-set}
 use Rattle.memory.specs.Row.{written}
 use Rattle.rules.specs.Calls.{due, step, step_by, answered_by, moved}
 use Rattle.rules.specs.Cells.{answers, leaves}
@@ -9,6 +9,7 @@ use Rattle.rules.specs.declared.access.Access.{Access}
 use Rattle.rules.specs.declared.access.Access.TheVariants.{Read, Write, Swap}
 use Rattle.rules.specs.declared.report.Report.{Report}
 use Rattle.rules.specs.declared.seat.Seat.{Seat}
+use Rattle.index.specs.Extents.{extent_over}
 
 length_cond : (b : Bool) (xs ys : List ℕ) (n : ℕ) → length xs ≡ n → length ys ≡ n → length (cond b xs ys) ≡ n
 length_cond true xs ys n p q = p
@@ -27,7 +28,7 @@ module _ (cs : List ℕ) (top : ℕ) where
 
 module _ (st : State) (i j : ℕ) (a : Option Access) (w : ℕ) (cells : List ℕ) (fan top count : ℕ) (s : Seat) (r : Report) where
   pub stepped : j ≡ i → due st i ≡ Ok a → Ok w ≡ answers st.cells st.top a → cells ≡ leaves st.cells st.top a → fan ≡ st.fan → top ≡ st.top
-      → (s, count, r) ≡ advance st.before (record { fan = fan; top = top; nodes = length cells / 32 }) (seat_at st.seats j) st.count w
+      → (s, count, r) ≡ advance st.before (extent_over fan cells top) (seat_at st.seats j) st.count w
       → (Ok r, record { cells = cells; top = top; iskey = st.iskey; before = st.before; fan = st.fan; count = count; seats = set st.seats j s })
       ≡ step st i
   stepped same d e l f t m =

@@ -3,17 +3,14 @@
 //! Each public call says what the step rules say of it (`rule`), that a refusal leaves all as it was (`refused`), that
 //! what lies outside the memory's row stays (`outside`), where it leads every run that led here (`reached`), and that
 //! every such run stays lawful (`lawful`).
-ghost use Rattle.std.specs.Prelude.{◌≡◌, ◌<◌, Ok, Err, MatchResult, OnErr, OnOk};
-ghost use Rattle.rules.specs.Calls.{format as format_rule, begin as begin_rule, due as due_rule, step as step_rule, abandon as abandon_rule, abandoned};
+ghost use Rattle.std.specs.Prelude.{◌≡◌, OnErr};
+ghost use Rattle.rules.specs.Calls.{format as format_rule, begin as begin_rule, step as step_rule, abandon as abandon_rule};
 ghost use Rattle.rules.specs.Histories.{BeginFind, BeginPut, Step, Abandon};
-ghost use Rattle.rules.specs.Seats.{starting_out};
-ghost use Rattle.rules.specs.State.{seat_at, with_seat};
-ghost use Rattle.rules.specs.declared.report.Report.TheVariants.{GoneOn};
 ghost use Rattle.rules.specs.declared.seat.Operation.TheVariants.{Find, Put};
 ghost use Rattle.index.specs.Runs.{Starts, LeadsOn, StaysLawful};
 ghost use Rattle.index.specs.Views.{view, placed, Fresh};
 
-use super::access::{access, clear, extent, perform};
+use super::access::{access, clear, perform};
 use super::fan::Fan;
 use super::seat::{abandon_report, go_on, idle, start_out, value_of};
 use memory::Memory;
@@ -152,7 +149,7 @@ impl<M: Memory, O: Order> Index<M, O> {
             return Err(Refusal::Unformatted);
         };
         let at = place(seat)?;
-        let access = access(&self.seats[at], extent(&self.memory, fan.entries))?;
+        let access = access(&self.seats[at], &self.memory, fan.entries)?;
         let word = perform(&mut self.memory, access)?;
         let lent = &mut self.seats[at];
         Ok(go_on(

@@ -1,5 +1,5 @@
 //! How a seat goes on from the word that its access gave.
-ghost use Rattle.std.specs.Prelude.{◌≡◌, ◌+◌, ◌/◌, ◌<◌, length, if◌then◌else◌, nat_eq, slice_set};
+ghost use Rattle.std.specs.Prelude.{◌≡◌, ◌+◌, ◌<◌, if◌then◌else◌, nat_eq, slice_set};
 ghost use Rattle.rules.specs.Calls.{abandon_answer, value_of as value_rule};
 ghost use Rattle.rules.specs.Nodes.{level};
 ghost use Rattle.rules.specs.Seats.{idle as idle_seat, in_phase, starting_out, with_word, with_draft};
@@ -8,6 +8,7 @@ ghost use Rattle.rules.specs.declared.report.Outcome.TheVariants.{Full, Worn};
 ghost use Rattle.rules.specs.declared.report.Report.TheVariants.{GoneOn, TurnedBack, Published, Posted, Unchanged, Ended};
 ghost use Rattle.rules.specs.declared.seat.Part.TheVariants.{Own};
 ghost use Rattle.rules.specs.declared.seat.Phase.TheVariants.{Idle, Look, Copy, Take, Fill, End};
+ghost use Rattle.index.specs.Extents.{extent_over};
 ghost use Rattle.node.specs.Courses.{followed};
 ghost use Rattle.node.specs.Drafts.{freed_by};
 
@@ -106,6 +107,7 @@ pub fn copy(seat: &mut Seat, at: u8, word: u64) -> Report
     ensures after { seat.new ≡ with_word seat.old at word (copy_next at) }
     ensures report { result ≡ GoneOn seat.old.node }
 {
+    // asked in this order, the copy of a word before the last costs one question
     if at < 31 {
         seat.copy[at as usize] = word;
         seat.phase = Phase::Copy { next: at + 1 };
@@ -188,33 +190,30 @@ pub fn hold<O: Order>(seat: &mut Seat, order: &O, fan: u8, freeing: u64)
 pub fn take(seat: &mut Seat, extent: Extent, count: &mut u64)
     ensures { (seat.new, count.new, GoneOn seat.old.node) ≡ takes extent seat.old count.old }
 {
-    let node = seat.node;
     let first = *count;
-    let needed = if node == 0 { 2 } else { 1 };
-    match first.checked_add(needed) {
-        Some(next) if next <= extent.nodes => {
-            if node != 0 {
-                *count = next;
-                seat.draft.left = node;
-                seat.draft.right = first;
-                seat.phase = Phase::Fill {
-                    part: Part::Right,
-                    next: 0,
-                };
-            } else if seat.draft.level < extent.top {
-                *count = next;
-                seat.draft.level += 1;
-                seat.draft.left = first;
-                seat.draft.right = next - 1;
-                seat.phase = Phase::Fill {
-                    part: Part::Left,
-                    next: 0,
-                };
-            } else {
-                seat.phase = Phase::Undo;
-            }
-        }
-        _ => seat.phase = Phase::Undo,
+    let is_root = seat.node == 0;
+    let needed = if is_root { 2 } else { 1 };
+    let has_room = needed <= extent.nodes.saturating_sub(first);
+    if !has_room || (is_root && seat.draft.level >= extent.top) {
+        seat.phase = Phase::Undo;
+        return;
+    }
+    *count = first + needed;
+    if is_root {
+        seat.draft.level += 1;
+        seat.draft.left = first;
+        seat.draft.right = first + 1;
+        seat.phase = Phase::Fill {
+            part: Part::Left,
+            next: 0,
+        };
+    } else {
+        seat.draft.left = seat.node;
+        seat.draft.right = first;
+        seat.phase = Phase::Fill {
+            part: Part::Right,
+            next: 0,
+        };
     }
 }
 
@@ -312,7 +311,7 @@ pub fn go_on<M: Memory, O: Order>(
     fan: u8,
     count: &mut u64,
 ) -> Report
-    ensures { (lent.new, count.new, result) ≡ advance (O.before order.now) (record { fan = fan; top = M.top memory.now; nodes = length (M.cells memory.now) / 32 }) lent.old count.old word }
+    ensures { (lent.new, count.new, result) ≡ advance (O.before order.now) (extent_over fan (M.cells memory.now) (M.top memory.now)) lent.old count.old word }
 {
     let node = lent.node;
     match (lent.phase, word) {
