@@ -2,4 +2,3 @@ pub mod Kept
 pub mod Reaching
 pub mod Staying
 pub mod Stepping
-pub mod Zeroed

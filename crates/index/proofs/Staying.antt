@@ -1,5 +1,5 @@
 -- A call that does what the rules say: its run leads on and stays lawful, and a refusal leaves the state.
-use Rattle.std.proofs.Common.{◌≡◌, ℕ, Bool, true, false, cond, ◌||◌, eqb, ltb, [], ◌∷◌, length, IfOk, IfErr, Ok, Err, Result, sym, refl, subst}
+use Rattle.std.proofs.Common.{◌≡◌, ℕ, Bool, true, false, cond, ◌||◌, eqb, ltb, [], ◌∷◌, length, IfOk, IfErr, Ok, Err, Result, sym, refl, ap, subst}
 use Rattle.memory.specs.Meaning.{Bounded}
 use Rattle.order.specs.Laws.{Ordered}
 use Rattle.rules.proofs.Runs.{runs_lawful}
@@ -23,12 +23,15 @@ module _ (c : Call) (r : Result Report Refusal) (st after : State) (e : (r, afte
   unfolding LeadsOn
   leads_on m₀ h reach = subst (λ (p : Answer). Reached m₀ (record { call = c; answer = p.0 } ∷ h) p.1) (sym e) (more reach c)
 
-  pub stays_lawful : StaysLawful c r st
+  lawful_on : StaysLawful c r st
   unfolding LeadsOn StaysLawful
-  stays_lawful m₀ h reach = runs_lawful m₀ _ after (leads_on m₀ h reach)
+  lawful_on m₀ h reach = runs_lawful m₀ _ after (leads_on m₀ h reach)
 
   pub refusal_keeps : IfErr r (λ _. after ≡ st)
   refusal_keeps = subst (λ (p : Answer). IfErr p.0 (λ _. p.1 ≡ st)) (sym e) (act_kept st c)
+
+pub stays_lawful : (c : Call) (r : Result Report Refusal) (st : State) → r ≡ (act c st).0 → StaysLawful c r st
+stays_lawful c r st e = lawful_on c r st (act c st).1 (ap (λ x. (x, (act c st).1)) e)
 
 -- an accepted format reports one thing
 started : (Q : Type 0) (st new : State) (a b c : Bool) →

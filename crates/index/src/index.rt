@@ -40,6 +40,7 @@ fn place(seat: u64) -> Result<usize, Refusal>
     }
 }
 
+#[tactic(auto, using(crate::proofs::Staying::refusal_keeps, crate::proofs::Staying::leads_on, crate::proofs::Staying::stays_lawful))]
 impl<M: Memory, O: Order> Index<M, O> {
     /// An index that is yet to be formatted.
     pub fn new(memory: M, order: O) -> Index<M, O>

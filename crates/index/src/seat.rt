@@ -1,4 +1,5 @@
 //! How a seat goes on from the word that its access gave.
+// These stay functions: `Seat` is declared in `rules`, below `node`, whose course and draft they use; a method can't stand above its type.
 ghost use Rattle.std.specs.Prelude.{◌≡◌, ◌+◌, ◌<◌, if◌then◌else◌, nat_eq, slice_set};
 ghost use Rattle.rules.specs.Calls.{abandon_answer, value_of as value_rule};
 ghost use Rattle.rules.specs.Nodes.{level};
@@ -303,6 +304,8 @@ pub fn end(seat: &mut Seat, outcome: Outcome) -> Report
 }
 
 /// Goes on from the word that the access of the seat's phase gave.
+// stays one match on phase and word: the phase is data that a seat keeps, and a table of closures would hide what a step can be
+// stays with six parameters: the seat and the count are lent out of the index beside the memory and the order
 pub fn go_on<M: Memory, O: Order>(
     lent: &mut Seat,
     word: u64,

@@ -1,7 +1,6 @@
 -- Entries laid over the front of others.
-use Rattle.std.proofs.Common.{◌≡◌, ℕ, zero, suc, ◌+◌, ◌-◌, ◌<◌, ◌≤◌, List, [], ◌∷◌, ◌++◌, length, get_or, map, take, drop, set, sym, refl, ap, ◌∙◌, le_refl, add-one, append-nil, arith, length-set, length-drop, drop_of_length-le, take_all}
+use Rattle.std.proofs.Common.{◌≡◌, ℕ, zero, suc, ◌+◌, ◌-◌, ◌<◌, ◌≤◌, List, [], ◌∷◌, ◌++◌, length, get_or, map, take, drop, set, sym, refl, ap, ◌∙◌, add-one, append-nil, arith, length-set, length-drop, drop_of_length-le, take_all}
 use borrow.Rule.Slice.PartMut.{put_mid, mid_of}
-use lib.Seq.{take-length, take-append-le}
 use Rattle.std.proofs.lemmas.List.{get_or-map, length-map, set-append_left, take-map, drop-map}
 use Rattle.std.proofs.lemmas.List.Edits.{length-insert}
 use Rattle.std.specs.List.{insert}
@@ -27,9 +26,6 @@ laid_more ps old now i h k e =
     let l : length (map pair ps) ≡ length ps = length-map ps pair in
     let x : get_or (map pair ps) i (entry 0 0) ≡ pair (get_or ps i []) = get_or-map pair ps i [] (entry 0 0) h in
     rw (add-one, e, sym x) (laid_suc (map pair ps) old i (omega (arith, l, h)) k)
-
-pub laid_front : (es old : List Entry) → take (length es) (laid es old) ≡ es
-laid_front es old = take-append-le (length es) es (drop (length es) old) (le_refl (length es)) ∙ take-length es
 
 -- another entry at one place
 pub laid_set : (es old : List Entry) (i : ℕ) (e : Entry) → i < length es → set (laid es old) i e ≡ laid (set es i e) old

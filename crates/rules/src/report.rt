@@ -8,6 +8,7 @@ use super::Refusal;
 /// How a put ends.
 #[derive(Clone, Copy, PartialEq, Eq, Debug)]
 pub enum Outcome {
+    // stays two cases, as Found and Absent below: 8 and 9 are reports of their own, and one with an Option would be matched twice
     /// The pair is stored, and its key is new.
     Stored,
     /// The pair is stored in place of one with this value.
@@ -35,6 +36,7 @@ pub enum Report {
     Posted(u64),
     /// The latch is free, and the node is as it was.
     Unchanged(u64),
+    // stays two cases: 6 and 7 are reports of their own, and one with an Option would be matched twice for its number
     /// The find ends: the key has this value.
     Found { node: u64, value: u64 },
     /// The find ends: the key is absent.

@@ -72,6 +72,7 @@ pub struct Draft {
     pub edge: u64,
     /// How many entries go left in a split.
     pub left_len: u8,
+    // stays a buffer with its length: no memory is taken for a seat, and it is copied whole; `node` lends it as slices
     /// How many of the entries count.
     pub len: u8,
     /// The entries of the latched node, or of a split's two nodes; those past `len` are left from before.

@@ -1,11 +1,8 @@
 use Rattle.std.proofs.Common.{◌≡◌, true, false, is_some, rules}
 use Rattle.rules.specs.Nodes.{entries}
 use Rattle.node.specs.Values.{value_at}
-use Rattle.node.proofs.Contents.{put_replaces, put_replaces_within, put_inserts, put_inserts_within, put_ends_replaced, put_ends_stored, post_is, post_none}
+use Rattle.node.proofs.Contents.{put_replaces, put_replaces_within, put_inserts, put_inserts_within, put_ends_replaced, put_ends_stored, post_is}
 use Rattle.node.proofs.change.change_of.Goals as goal
-
-pub returns-in_err-last-in-Post : goal.returns-in_err-last-in-Post
-returns-in_err-last-in-Post g c = search (rules, post_none)
 
 pub returns-in-Some : goal.returns-in-Some
 returns-in-Some g c =
