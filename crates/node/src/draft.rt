@@ -18,6 +18,7 @@ fn lay(entries: &mut [Entry], pairs: &[[u64; 2]])
     requires { length pairs.now ≤ length entries.old }
     ensures { entries.new ≡ laid (map pair pairs.now) entries.old }
 {
+    // stays an index into the target: after a loop over its iter_mut in a zip the proof knows nothing of it
     for (i, &[key, value]) in pairs.iter().enumerate() {
         entries[i] = Entry { key, value };
     }
