@@ -46,7 +46,7 @@ pub fn freeing(seat: &Seat, top: u64) -> Option<u64>
 
 /// The access that is due at a seat, if its next step makes one. It is refused as the rules say, or where no memory has
 /// the cell.
-pub fn access<M: Memory>(seat: &Seat, memory: &M, fan: u8) -> Result<Option<Access>, Refusal>
+pub fn due<M: Memory>(seat: &Seat, memory: &M, fan: u8) -> Result<Option<Access>, Refusal>
     ensures { Due (extent_over fan (M.cells memory.now) (M.top memory.now)) seat.now result }
 {
     Ok(Some(match seat.phase {

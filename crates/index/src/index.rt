@@ -10,7 +10,7 @@ ghost use Rattle.rules.specs.declared.seat.Operation.TheVariants.{Find, Put};
 ghost use Rattle.index.specs.Runs.{Starts, LeadsOn, StaysLawful};
 ghost use Rattle.index.specs.Views.{view, placed, Fresh};
 
-use super::access::{access, clear, perform};
+use super::access::{clear, due, perform};
 use super::fan::Fan;
 use super::seat::{abandon_report, go_on, idle, start_out, value_of};
 use memory::Memory;
@@ -150,7 +150,7 @@ impl<M: Memory, O: Order> Index<M, O> {
             return Err(Refusal::Unformatted);
         };
         let at = place(seat)?;
-        let access = access(&self.seats[at], &self.memory, fan.entries)?;
+        let access = due(&self.seats[at], &self.memory, fan.entries)?;
         let word = perform(&mut self.memory, access)?;
         let lent = &mut self.seats[at];
         Ok(go_on(
