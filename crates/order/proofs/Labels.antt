@@ -1,30 +1,49 @@
 -- A label by its eight bytes.
-use Rattle.std.proofs.Common.{◌≡◌, ℕ, zero, suc, ◌+◌, ◌^◌, ◌<◌, Bool, true, false, List, [], ◌∷◌, length, get_or, ◌≢◌, ◌∙◌, sym, inl, inr, refl, Some, arith, add-one, eqb-true, eq-eqb, ne_eqb, ap, cond, lit<, ◌*◌, ◌==◌}
+use Rattle.std.proofs.Common.{◌≡◌, ℕ, zero, suc, ◌+◌, ◌^◌, ◌<◌, Bool, true, false, List, [], ◌∷◌, length, get_or, ◌≢◌, ◌∙◌, sym, inl, inr, refl, arith, add-one, eqb-true, nat_lt, lt-ltb, le-ltb, eq-eqb, ne_eqb, ap, cond, lit<, ◌*◌, ◌==◌}
 use Rattle.std.specs.List.{IsAllAdjacentAnswer}
-use Rattle.std.specs.Int.{w64, to_le_bytes}
-use Rattle.std.specs.Ordering.{nat_cmp, is_lt, is_some_and}
-use Rattle.std.specs.Cmp.Lexicographic.{slice_partial_cmp}
-use Rattle.std.proofs.lemmas.Cmp.{same_from_slice_cmp_tested}
+use Rattle.std.specs.Int.{w64, to_le_bytes, swap_bytes}
 use Rattle.std.proofs.lemmas.Bool.Decides.{nat_tests}
-use native.Mathlib.Nat.{div-div-eq-div-mul, pow-suc, div-lt_iff_lt-mul}
-use Rattle.order.specs.Lexical.{lexical, cases}
-use Rattle.order.specs.Label.{letter, rest, spells, label_key, label_before}
+use native.Mathlib.Nat.{div-div-eq-div-mul, pow-suc, div-lt_iff_lt-mul, mul-le-mul_right, suc-mul}
+use Rattle.order.specs.Lexical.{lexical_rest, lexical_less, compared, cases}
+use Rattle.order.specs.Label.{letter, rest, spells, leads, label_key, label_before}
 
--- the first of two lists of letters comes before the second
-leads_listed : List ℕ → List ℕ → Bool
-leads_listed [] [] = false
-leads_listed [] (y ∷ ys) = true
-leads_listed (x ∷ xs) [] = false
-leads_listed (x ∷ xs) (y ∷ ys) = lexical x y (leads_listed xs ys)
+-- the number that n letters write, the first one highest
+weigh : ℕ → ℕ → ℕ
+weigh zero a = 0
+weigh (suc n) a = letter a * 256 ^ n + weigh n (rest a)
 
-pub leads_bytes :
-    (a b : ℕ) (xs ys : List ℕ) (r : Bool) → xs ≡ to_le_bytes w64 a → ys ≡ to_le_bytes w64 b
-    → r ≡ is_some_and is_lt (slice_partial_cmp (λ x y. Some (nat_cmp x y)) xs ys) → r ≡ label_before a b
-unfolding leads_listed
-leads_bytes a b xs ys r e f h =
-    let t : r ≡ leads_listed xs ys =
-        same_from_slice_cmp_tested nat_cmp is_lt leads_listed refl (λ _ _. refl) (λ _ _. refl) (λ x y us vs o k. grind (arith, nat_tests)) xs ys r h in
-    rw (e, f) at t ∙ simp div-div-eq-div-mul
+weigh_below : (n a : ℕ) → weigh n a < 256 ^ n
+unfolding weigh
+weigh_below zero a = lit< tt
+weigh_below (suc n) a = omega (arith, mul-le-mul_right {m = letter a} {n = 255} (256 ^ n) (omega arith), weigh_below n (rest a), pow-suc 256 n)
+
+lt_added : (k u v : ℕ) → nat_lt u v ≡ nat_lt (k + u) (k + v)
+lt_added k u v = grind (arith, nat_tests)
+
+lower : (n x y u v : ℕ) → x < y → u < 256 ^ n → x * 256 ^ n + u < y * 256 ^ n + v
+lower n x y u v h l = omega (arith, suc-mul x (256 ^ n), mul-le-mul_right {m = suc x} {n = y} (256 ^ n) h)
+
+leads_weigh : (n a b : ℕ) → leads n a b ≡ nat_lt (weigh n a) (weigh n b)
+unfolding weigh
+leads_weigh zero a b = refl
+leads_weigh (suc n) a b =
+    let u = weigh n (rest a) in
+    let v = weigh n (rest b) in
+    elim (compared (letter a) (letter b)) [
+      | inl e ↦ rw e (lexical_rest (letter b) (letter b) _ refl ∙ leads_weigh n (rest a) (rest b) ∙ lt_added (letter b * 256 ^ n) u v)
+      | inr d ↦ elim d [
+        | inl h ↦ lexical_less (letter a) (letter b) _ h ∙ sym (lt-ltb (letter a * 256 ^ n + u) (letter b * 256 ^ n + v) (lower n (letter a) (letter b) u v h (weigh_below n (rest a))))
+        | inr h ↦ (let l = lower n (letter b) (letter a) v u h (weigh_below n (rest b)) in
+            rw (ne_eqb (letter a) (letter b) (λ e. omega (arith, e)), le-ltb (letter a) (letter b) (omega arith)) (sym (le-ltb (letter a * 256 ^ n + u) (letter b * 256 ^ n + v) (omega arith))))
+      ]
+    ]
+
+swapped : (a : ℕ) → swap_bytes w64 a ≡ weigh 8 a
+unfolding weigh
+swapped a = simp div-div-eq-div-mul (omega arith)
+
+pub leads_swapped : (a b x y : ℕ) → x ≡ swap_bytes w64 a → y ≡ swap_bytes w64 b → nat_lt x y ≡ label_before a b
+leads_swapped a b x y e f = rw (e ∙ swapped a, f ∙ swapped b) (sym (leads_weigh 8 a b))
 
 -- the letter at place k
 at : ℕ → ℕ → ℕ
@@ -102,8 +121,8 @@ pub spells_bytes : (a : ℕ) (xs : List ℕ) (r : Bool) → a < 2 ^ 64 → xs �
 spells_bytes a xs true h e f =
     let n : length xs ≡ 8 = ap length e in
     sym (spells_kept 8 a h (λ k l z.
-        let next = follows_true _ _ (f k 0 (omega arith)) (byte_at a xs e k (omega arith) ∙ z) in
-        rw add-one at (sym (byte_at a xs e (k + 1) (omega arith)) ∙ next)))
+    let next = follows_true _ _ (f k 0 (omega arith)) (byte_at a xs e k (omega arith) ∙ z) in
+    rw add-one at (sym (byte_at a xs e (k + 1) (omega arith)) ∙ next)))
 spells_bytes a xs false h e f =
     let n : length xs ≡ 8 = ap length e in
     let k = f.0 in

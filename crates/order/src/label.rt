@@ -17,11 +17,13 @@ impl Order for LabelOrder {
 
     fn is_key(&self, word: u64) -> bool {
         // no letter stands after a zero byte
-        word.to_le_bytes().is_sorted_by(|letter, next| *letter != 0 || *next == 0)
+        word.to_le_bytes()
+            .is_sorted_by(|letter, next| *letter != 0 || *next == 0)
     }
 
-    #[tactic(auto, using(crate::proofs::Labels::leads_bytes))]
+    #[tactic(auto, using(crate::proofs::Labels::leads_swapped))]
     fn before(&self, first: u64, second: u64) -> bool {
-        first.to_le_bytes() < second.to_le_bytes()
+        // with the first letter in the highest byte
+        first.swap_bytes() < second.swap_bytes()
     }
 }
