@@ -2,9 +2,10 @@
 use Rattle.std.proofs.Common.{◌≡◌, ℕ, zero, suc, ◌+◌, ◌^◌, ◌<◌, Bool, true, false, List, [], ◌∷◌, length, get_or, ◌≢◌, ◌∙◌, sym, inl, inr, refl, arith, add-one, eqb-true, nat_lt, lt-ltb, le-ltb, eq-eqb, ne_eqb, ap, cond, lit<, ◌*◌, ◌==◌}
 use Rattle.std.specs.List.{IsAllAdjacentAnswer}
 use Rattle.std.specs.Int.{w64, to_le_bytes, swap_bytes}
+use Rattle.std.proofs.lemmas.Bool.{cases_Bool, cases_order}
 use Rattle.std.proofs.lemmas.Bool.Decides.{nat_tests}
 use native.Mathlib.Nat.{div-div-eq-div-mul, pow-suc, div-lt_iff_lt-mul, mul-le-mul_right, suc-mul}
-use Rattle.order.specs.Lexical.{lexical_rest, lexical_less, compared, cases}
+use Rattle.order.specs.Lexical.{lexical_rest, lexical_less}
 use Rattle.order.specs.Label.{letter, rest, spells, leads, label_key, label_before}
 
 -- the number that n letters write, the first one highest
@@ -29,7 +30,7 @@ leads_weigh zero a b = refl
 leads_weigh (suc n) a b =
     let u = weigh n (rest a) in
     let v = weigh n (rest b) in
-    elim (compared (letter a) (letter b)) [
+    elim (cases_order (letter a) (letter b)) [
       | inl e ↦ rw e (lexical_rest (letter b) (letter b) _ refl ∙ leads_weigh n (rest a) (rest b) ∙ lt_added (letter b * 256 ^ n) u v)
       | inr d ↦ elim d [
         | inl h ↦ lexical_less (letter a) (letter b) _ h ∙ sym (lt-ltb (letter a * 256 ^ n + u) (letter b * 256 ^ n + v) (lower n (letter a) (letter b) u v h (weigh_below n (rest a))))
@@ -85,7 +86,7 @@ spells_kept : (n a : ℕ) → a < 256 ^ n → ((k : ℕ) → suc k < n → at k 
 unfolding at
 spells_kept zero a h f = eq-eqb a 0 (omega arith)
 spells_kept (suc n) a h f =
-    elim (cases (letter a == 0)) [
+    elim (cases_Bool (letter a == 0)) [
       | inl e ↦ rw e (eq-eqb a 0 (nothing (suc n) a h (eqb-true (letter a) 0 e) f))
       | inr e ↦ rw e (spells_kept n (rest a) (shorter n a h) (λ k l. f (suc k) (omega arith)))
     ]
@@ -95,7 +96,7 @@ unfolding at
 spells_broken zero a k h e f = absurd (omega arith)
 spells_broken (suc n) a zero h e f = rw (eq-eqb (letter a) 0 e) (ne_eqb a 0 (λ z. f (omega (arith, z))))
 spells_broken (suc n) a (suc k) h e f =
-    elim (cases (letter a == 0)) [
+    elim (cases_Bool (letter a == 0)) [
       | inl z ↦ rw z (ne_eqb a 0 (λ i. f (ap (at (suc (suc k))) i ∙ at_zero (suc (suc k)))))
       | inr z ↦ rw z (spells_broken n (rest a) k (omega arith) e f)
     ]
@@ -109,7 +110,7 @@ follows_true x y e z = let k = rw (eq-eqb x 0 z) at e in eqb-true y 0 (sym k)
 
 follows_false : (x y : ℕ) → false ≡ follows x y → (x ≡ 0) × (y ≢ 0)
 follows_false x y e =
-    elim (cases (x == 0)) [
+    elim (cases_Bool (x == 0)) [
       | inl z ↦ (eqb-true x 0 z, λ i. (let k = rw (z, eq-eqb y 0 i) at e in cc))
       | inr z ↦ (let k = rw z at e in absurd (cc))
     ]
