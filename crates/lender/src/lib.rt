@@ -9,13 +9,14 @@ ghost use Rattle.memory.specs.Row.{front, guarded, written};
 
 use memory::{ByteMemory, Fault, Joined, Memory, Width, WordMemory};
 
+// A store for each kind of memory, and none for all kinds: what the loan holds afterwards is said by the kind, not by `Memory`.
 /// Stores a word in the caller's numbers. The memory is let go at the end, and the caller's numbers are known then.
+#[tactic(auto, using(crate::proofs::Storing::stored_lent))]
 pub fn store(words: &mut [u64], cell: u64, word: u64) -> Result<(), Fault>
     ensures answer { result ≡ guarded (front words.old) 18446744073709551615 cell word tt }
     ensures after { words.new ≡ stored words.old cell word }
 {
-    let mut memory = WordMemory::new(words);
-    memory.write(cell, word)
+    WordMemory::new(words).write(cell, word)
 }
 
 /// Stores a word in the caller's bytes. The memory is let go at the end, and the caller's bytes are known then: by the
@@ -25,11 +26,11 @@ pub fn store_in_bytes(bytes: &mut [u8], width: Width, cell: u64, word: u64) -> R
     ensures after { cells_of width bytes.new ≡ written (cells_of width bytes.old) (top_of width) cell word }
     ensures rest { rest_of width bytes.new ≡ rest_of width bytes.old }
 {
-    let mut memory = ByteMemory::new(bytes, width);
-    memory.write(cell, word)
+    ByteMemory::new(bytes, width).write(cell, word)
 }
 
 /// Writes 0 to every cell of any memory.
+#[tactic(auto, using(crate::proofs::Storing::wiped_more, crate::proofs::Storing::wiped_all))]
 pub fn wipe<M: Memory>(memory: &mut M)
     ensures after { M.cells memory.new ≡ wiped (M.cells memory.old) }
     ensures same { M.top memory.new ≡ M.top memory.old }
@@ -41,11 +42,11 @@ pub fn wipe<M: Memory>(memory: &mut M)
 }
 
 /// Writes 0 to the caller's numbers, by way of code that knows of the memory its meaning alone.
+#[tactic(auto, using(crate::proofs::Storing::wiped_lent))]
 pub fn wipe_words(words: &mut [u64])
     ensures { words.new ≡ wiped_front words.old }
 {
-    let mut memory = WordMemory::new(words);
-    wipe(&mut memory);
+    wipe(&mut WordMemory::new(words));
 }
 
 /// A client that holds a memory by value, as an index does.
@@ -81,13 +82,23 @@ impl<M: Memory> Holder<M> {
     }
 }
 
+/// A memory after a client that held it stored a word.
+fn held<M: Memory>(memory: M, cell: u64, word: u64) -> M
+    ensures after { M.cells result ≡ written (M.cells memory) (M.top memory) cell word }
+    ensures same { M.top result ≡ M.top memory }
+    ensures outside { M.outside result ≡ M.outside memory }
+{
+    let mut holder = Holder::new(memory);
+    let _ = holder.store(cell, word);
+    holder.into_memory()
+}
+
 /// Stores a word in the caller's numbers by way of a client that holds the memory, and hands the numbers back.
+#[tactic(auto, using(crate::proofs::Storing::stored_lent))]
 pub fn store_held<'a>(words: &'a mut [u64], cell: u64, word: u64) -> &'a mut [u64]
     ensures { result.now ≡ stored words.old cell word }
 {
-    let mut holder = Holder::new(WordMemory::new(words));
-    let _ = holder.store(cell, word);
-    holder.into_memory().into_words()
+    held(WordMemory::new(words), cell, word).into_words()
 }
 
 /// Stores a word in the caller's bytes by way of a client that holds the memory, and hands the bytes back.
@@ -100,12 +111,11 @@ pub fn store_held_in_bytes<'a>(
     ensures after { cells_of width result.now ≡ written (cells_of width bytes.old) (top_of width) cell word }
     ensures rest { rest_of width result.now ≡ rest_of width bytes.old }
 {
-    let mut holder = Holder::new(ByteMemory::new(bytes, width));
-    let _ = holder.store(cell, word);
-    holder.into_memory().into_bytes()
+    held(ByteMemory::new(bytes, width), cell, word).into_bytes()
 }
 
 /// Stores a word in one of two callers' numbers by way of the memory that they make together, and hands both back.
+#[tactic(auto, using(crate::proofs::Storing::stored_first_lent, crate::proofs::Storing::stored_second_lent))]
 pub fn store_joined<'a>(
     first: &'a mut [u64],
     second: &'a mut [u64],

@@ -1,12 +1,12 @@
 -- A row of cells that are a few bytes each.
-use Rattle.std.proofs.Common.{◌≡◌, ℕ, zero, suc, ◌+◌, ◌-◌, ◌*◌, ◌/◌, ◌%◌, ◌^◌, ◌<◌, ◌≤◌, min, List, [], ◌∷◌, ◌++◌, length, get_or, take, drop, set, sym, refl, ap, ◌∙◌, append_assoc, mul-le-mul_right, suc-mul, div-lt_iff_lt-mul, add_comm, pow-suc, zero-mul, div-mul-le_self, arith, lit<, length-append, length-drop, length-take, drop-drop, take_at, take-add, drop_at}
+use Rattle.std.proofs.Common.{◌≡◌, ℕ, zero, suc, ◌+◌, ◌-◌, ◌*◌, ◌/◌, ◌%◌, ◌^◌, ◌<◌, ◌≤◌, min, List, [], ◌∷◌, ◌++◌, length, get_or, take, drop, set, replicate, sym, refl, ap, ◌∙◌, append_assoc, mul-le-mul_right, suc-mul, div-lt_iff_lt-mul, add_comm, pow-suc, zero-mul, div-mul-le_self, arith, lit<, length-append, length-drop, length-take, drop-drop, take_at, take-add, drop_at}
+use Rattle.std.specs.Int.{w64, from_le_bytes, to_le_bytes}
 use borrow.Rule.Slice.PartMut.{put_mid}
 use native.Mathlib.Nat.{mod-add-div, div-div-eq-div-mul}
-use Rattle.std.proofs.lemmas.List.{drop_all}
+use Rattle.std.proofs.lemmas.List.{drop_all, drop-replicate}
 use Rattle.std.proofs.lemmas.Slice.{take-put_mid_below, drop-put_mid}
 use Rattle.memory.specs.declared.width.Width.{Width}
 use Rattle.memory.specs.Bounds.{length_words}
-use Rattle.memory.specs.Meaning.{lent}
 use Rattle.memory.specs.Bytes.{width_of, value, words, count_of, cells_of, rest_of}
 
 -- ---- the number that bytes write
@@ -17,37 +17,24 @@ value_at [] (suc k) = refl
 value_at (x ∷ l) zero = refl
 value_at (x ∷ l) (suc k) = value_at l k
 
-pub value_eight :
-    (l : List ℕ) → length l ≤ 8
-    → get_or l 0 0 + get_or l 1 0 * 256 + get_or l 2 0 * 65536 + get_or l 3 0 * 16777216 + get_or l 4 0 * 4294967296 + get_or l 5 0 * 1099511627776 + get_or l 6 0 * 281474976710656 + get_or l 7 0 * 72057594037927936 ≡ value l
+pub value_eight : (l : List ℕ) → length l ≤ 8 → from_le_bytes w64 l ≡ value l
 value_eight l h =
     let end : value (drop 8 l) ≡ 0 = ap value (drop_all 8 l h) in
     omega (arith, end, value_at l 0, value_at l 1, value_at l 2, value_at l 3, value_at l 4, value_at l 5, value_at l 6, value_at l 7)
 
-abbrev zeros : ℕ → List ℕ
-zeros zero = []
-zeros (suc n) = 0 ∷ zeros n
-
-value_zeros : (k n : ℕ) → value (drop n (zeros k)) ≡ 0
-value_zeros zero zero = refl
-value_zeros zero (suc n) = refl
-value_zeros (suc k) zero = ap (λ r. 0 + 256 * r) (value_zeros k zero)
-value_zeros (suc k) (suc n) = value_zeros k n
+value_zeros : (n : ℕ) → value (replicate n 0) ≡ 0
+value_zeros zero = refl
+value_zeros (suc n) = ap (λ r. 0 + 256 * r) (value_zeros n)
 
 value_append : (xs ys : List ℕ) → value ys ≡ 0 → value (xs ++ ys) ≡ value xs
 value_append [] ys e = e
 value_append (x ∷ xs) ys e = ap (λ r. x + 256 * r) (value_append xs ys e)
 
 -- eight bytes, of which the first n were copied
-abbrev pub padded : ℕ → List ℕ → List ℕ
-padded n bs = put_mid 0 n (zeros 8) bs
-
-pub value_loaded :
-    (n : ℕ) (bs : List ℕ) → n ≤ 8 → length bs ≡ n
-    → get_or (padded n bs) 0 0 + get_or (padded n bs) 1 0 * 256 + get_or (padded n bs) 2 0 * 65536 + get_or (padded n bs) 3 0 * 16777216 + get_or (padded n bs) 4 0 * 4294967296 + get_or (padded n bs) 5 0 * 1099511627776 + get_or (padded n bs) 6 0 * 281474976710656 + get_or (padded n bs) 7 0 * 72057594037927936 ≡ value bs
+pub value_loaded : (n : ℕ) (bs : List ℕ) → n ≤ 8 → length bs ≡ n → from_le_bytes w64 (put_mid 0 n (replicate 8 0) bs) ≡ value bs
 value_loaded n bs h l =
-    let k : length (bs ++ drop n (zeros 8)) ≤ 8 = simp (length-append, length-drop) (omega arith) in
-    value_eight (bs ++ drop n (zeros 8)) k ∙ value_append bs (drop n (zeros 8)) (value_zeros 8 n)
+    let k : length (bs ++ drop n (replicate 8 0)) ≤ 8 = simp (length-append, length-drop) (omega arith) in
+    value_eight (bs ++ drop n (replicate 8 0)) k ∙ value_append bs (drop n (replicate 8 0)) (ap value (drop-replicate n 8 0) ∙ value_zeros (8 - n))
 
 -- the bytes of a number, low byte first
 digits : ℕ → ℕ → List ℕ
@@ -68,13 +55,11 @@ value_digits (suc n) v h =
     let l : v / 256 < 256 ^ n = (div-lt_iff_lt-mul {k = 256} {x = v} {y = 256 ^ n} (lit< tt)).1 k in
     ap (λ r. v % 256 + 256 * r) (value_digits n (v / 256) l) ∙ mod-add-div v 256
 
-digits_eight : (v : ℕ) → (v % 256) ∷ (v / 256 % 256) ∷ (v / 65536 % 256) ∷ (v / 16777216 % 256) ∷ (v / 4294967296 % 256) ∷ (v / 1099511627776 % 256) ∷ (v / 281474976710656 % 256) ∷ (v / 72057594037927936 % 256) ∷ [] ≡ digits 8 v
+digits_eight : (v : ℕ) → to_le_bytes w64 v ≡ digits 8 v
 unfolding digits
 digits_eight v = simp div-div-eq-div-mul
 
-pub value_stored :
-    (n v : ℕ) → n ≤ 8 → v < 256 ^ n
-    → value (take n ((v % 256) ∷ (v / 256 % 256) ∷ (v / 65536 % 256) ∷ (v / 16777216 % 256) ∷ (v / 4294967296 % 256) ∷ (v / 1099511627776 % 256) ∷ (v / 281474976710656 % 256) ∷ (v / 72057594037927936 % 256) ∷ [])) ≡ v
+pub value_stored : (n v : ℕ) → n ≤ 8 → v < 256 ^ n → value (take n (to_le_bytes w64 v)) ≡ v
 value_stored n v h l = ap (λ r. value (take n r)) (digits_eight v) ∙ ap value (take_digits n 8 v h) ∙ value_digits n v l
 
 -- ---- the row
@@ -127,34 +112,32 @@ cell_within width bs cell h =
 length_put_mid : (a k : ℕ) (bs new : List ℕ) → a + k ≤ length bs → length new ≡ k → length (put_mid a k bs new) ≡ length bs
 length_put_mid a k bs new h l = simp (length-append, length-take, length-drop) (omega arith)
 
-pub bytes_read : (width : Width) (bs : List ℕ) (cell start w : ℕ) → cell < length (cells_of width bs) → start ≡ cell * width_of width → w ≡ width_of width → value (take (start + w - start) (drop start bs)) ≡ get_or (cells_of width bs) cell 0
-bytes_read width bs cell start w h s e =
-    let n = count_of width bs in
-    let k : cell < n = rw length_words at h in
-    let t : start + w - start ≡ width_of width = omega arith in
-    ap (λ i. value (take i (drop start bs))) t ∙ ap (λ i. value (take (width_of width) (drop i bs))) s ∙ get_or_words (width_of width) n bs cell k
+-- a cell of the row ends within the bytes
+pub cell_bytes : (width : Width) (bs : List ℕ) (cell : ℕ) → cell < length (cells_of width bs) → cell * width_of width + width_of width ≤ length bs
+cell_bytes width bs cell h = let k : cell < count_of width bs = rw length_words at h in omega (arith, cell_within width bs cell k, row_within width bs)
 
-pub bytes_write :
-    (width : Width) (bs new : List ℕ) (cell word start w name : ℕ)
-    → cell < length (cells_of width bs) → start ≡ cell * width_of width → w ≡ width_of width → length new ≡ w → value new ≡ word
-    → (cells_of width (put_mid start (start + w - start) bs new) ≡ set (cells_of width bs) cell word)
-    × (lent name (rest_of width (put_mid start (start + w - start) bs new)) ≡ lent name (rest_of width bs))
-bytes_write width bs new cell word start w name h s e l v =
-    let n = count_of width bs in
-    let d = width_of width in
-    let k : cell < n = rw length_words at h in
-    let t : start + w - start ≡ d = omega arith in
-    let p : put_mid start (start + w - start) bs new ≡ put_mid (cell * d) d bs new = ap (λ i. put_mid start i bs new) t ∙ ap (λ i. put_mid i d bs new) s in
-    let c = cell_within width bs cell k in
-    let r = row_within width bs in
-    let z : length new ≡ d = l ∙ e in
-    let q : length (put_mid start (start + w - start) bs new) ≡ length bs = ap length p ∙ length_put_mid (cell * d) d bs new (omega arith) z in
-    let m : count_of width (put_mid start (start + w - start) bs new) ≡ n = ap (λ i. min 65536 (i / d)) q in (
-      ap (λ i. words d i (put_mid start (start + w - start) bs new)) m
-          ∙ ap (words d n) p
-          ∙ set_words d n bs new cell k r z
-          ∙ ap (set (cells_of width bs) cell) v,
-      ap (λ i. lent name (drop (i * d) (put_mid start (start + w - start) bs new))) m
-          ∙ ap (λ i. lent name (drop (n * d) i)) p
-          ∙ ap (lent name) (drop-put_mid (cell * d) d bs new (n * d) (omega arith) (omega arith) z),
-    )
+pub bytes_read :
+    (width : Width) (bs : List ℕ) (cell start end : ℕ) → cell < length (cells_of width bs) → start ≡ cell * width_of width → end ≡ start + width_of width
+    → value (take (end - start) (drop start bs)) ≡ get_or (cells_of width bs) cell 0
+bytes_read width bs cell start end h s e =
+    let k : cell < count_of width bs = rw length_words at h in
+    let t : end - start ≡ width_of width = omega arith in
+    rw (t, s) (get_or_words (width_of width) (count_of width bs) bs cell k)
+
+-- the bytes after a cell's were replaced: the row, and what lies past it
+module _ (width : Width) (bs new : List ℕ) (cell start end : ℕ) (h : cell < length (cells_of width bs)) (s : start ≡ cell * width_of width) (e : end ≡ start + width_of width) (l : length new ≡ end - start) where
+  k : cell < count_of width bs
+  k = rw length_words at h
+
+  t : end - start ≡ width_of width
+  t = omega arith
+
+  count_kept : count_of width (put_mid start (end - start) bs new) ≡ count_of width bs
+  count_kept =
+      ap (λ i. min 65536 (i / width_of width)) (length_put_mid start (end - start) bs new (omega (arith, cell_bytes width bs cell h)) l)
+
+  pub bytes_write_row : (word : ℕ) → value new ≡ word → cells_of width (put_mid start (end - start) bs new) ≡ set (cells_of width bs) cell word
+  bytes_write_row word v = rw count_kept (rw (t, s) (set_words (width_of width) (count_of width bs) bs new cell k (row_within width bs) (l ∙ t) ∙ ap (set (cells_of width bs) cell) v))
+
+  pub bytes_write_rest : rest_of width (put_mid start (end - start) bs new) ≡ rest_of width bs
+  bytes_write_rest = rw count_kept (rw (t, s) (drop-put_mid (cell * width_of width) (width_of width) bs new (count_of width bs * width_of width) (cell_within width bs cell k) (omega (arith, cell_within width bs cell k, row_within width bs)) (l ∙ t)))

@@ -3,3 +3,4 @@ pub mod Bytes
 pub mod Meaning
 pub mod Bounds
 pub mod Number
+pub mod Joined

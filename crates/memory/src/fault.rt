@@ -2,12 +2,12 @@ ghost use Rattle.std.specs.Prelude.{◌≡◌};
 ghost use Rattle.memory.specs.Number.{fault_number};
 
 /// Why a memory refuses a call. A refused call alters nothing.
-#[derive(Clone, Copy, PartialEq, Debug)]
+#[derive(Clone, Copy, PartialEq, Eq, Debug)]
 pub enum Fault {
     /// The cell is outside the row.
-    NoCell,
+    NoCell = 24,
     /// The new word is above the top word.
-    TooWide,
+    TooWide = 25,
 }
 
 impl Fault {
@@ -15,9 +15,6 @@ impl Fault {
     pub fn number(self) -> u64
         ensures { result ≡ fault_number self }
     {
-        match self {
-            Fault::NoCell => 24,
-            Fault::TooWide => 25,
-        }
+        self as u64
     }
 }

@@ -1,5 +1,7 @@
-ghost use Rattle.std.specs.Prelude.{◌≡◌, ◌+◌, ◌<◌, ◌≤◌, min, ◌++◌, length, Ok, slice_index, slice_set};
+ghost use Rattle.std.specs.Prelude.{◌≡◌, ◌<◌, ◌≤◌, min, ◌++◌, length, IfOk, IfErr};
+ghost use Rattle.memory.specs.declared.fault.Fault.TheVariants.{NoCell};
 ghost use Rattle.memory.specs.Bounds.{bounded_joined};
+ghost use Rattle.memory.specs.Joined.{placed};
 ghost use Rattle.memory.specs.Meaning.{pair};
 ghost use Rattle.memory.specs.Row.{front, beyond};
 
@@ -30,41 +32,28 @@ impl<A: Memory, B: Memory> Joined<A, B> {
     }
 }
 
+/// In which of the two memories a cell lies, and which cell it is there.
+#[derive(Clone, Copy)]
+enum Place {
+    /// This cell of the first one.
+    First(u64),
+    /// This cell of the second one.
+    Second(u64),
+}
+
 impl<A: Memory, B: Memory> Joined<A, B> {
-    /// How many cells both have together.
-    fn count(&self) -> u64
-        ensures { result ≡ min 65536 (length (A.Memory.cells self.now.first) + length (B.Memory.cells self.now.second)) }
+    /// Where a cell lies, if the joined row has it.
+    fn place(&self, cell: u64) -> Result<Place, Fault>
+        ensures ok { IfOk result (λ at. (at ≡ placed (length (A.Memory.cells self.now.first)) cell) × (cell < length (front (A.Memory.cells self.now.first ++ B.Memory.cells self.now.second)))) }
+        ensures err { IfErr result (λ e. (e ≡ NoCell) × (length (front (A.Memory.cells self.now.first ++ B.Memory.cells self.now.second)) ≤ cell)) }
     {
-        (self.first.length() + self.second.length()).min(LONGEST)
-    }
-
-    /// The word of a cell of the joined row.
-    fn get(&self, cell: u64) -> Result<u64, Fault>
-        requires { cell < length (front (A.Memory.cells self.now.first ++ B.Memory.cells self.now.second)) }
-        ensures { result ≡ Ok (slice_index (front (A.Memory.cells self.now.first ++ B.Memory.cells self.now.second)) cell) }
-    {
-        let split = self.first.length();
-        if cell < split {
-            self.first.read(cell)
-        } else {
-            self.second.read(cell - split)
+        if cell >= self.length() {
+            return Err(Fault::NoCell);
         }
-    }
-
-    /// Makes a cell of the joined row hold a word that both memories take.
-    fn put(&mut self, cell: u64, word: u64) -> Result<(), Fault>
-        requires { (cell < length (front (A.Memory.cells self.old.first ++ B.Memory.cells self.old.second))) × (word ≤ min (A.Memory.top self.old.first) (B.Memory.top self.old.second)) }
-        ensures answer { result ≡ Ok tt }
-        ensures after { front (A.Memory.cells self.new.first ++ B.Memory.cells self.new.second) ≡ slice_set (front (A.Memory.cells self.old.first ++ B.Memory.cells self.old.second)) cell word }
-        ensures same { min (A.Memory.top self.new.first) (B.Memory.top self.new.second) ≡ min (A.Memory.top self.old.first) (B.Memory.top self.old.second) }
-        ensures outside { pair (length (A.Memory.cells self.new.first)) (beyond (A.Memory.cells self.new.first ++ B.Memory.cells self.new.second)) (A.Memory.outside self.new.first) (B.Memory.outside self.new.second) ≡ pair (length (A.Memory.cells self.old.first)) (beyond (A.Memory.cells self.old.first ++ B.Memory.cells self.old.second)) (A.Memory.outside self.old.first) (B.Memory.outside self.old.second) }
-    {
-        let split = self.first.length();
-        if cell < split {
-            self.first.write(cell, word)
-        } else {
-            self.second.write(cell - split, word)
-        }
+        Ok(match cell.checked_sub(self.first.length()) {
+            None => Place::First(cell),
+            Some(at) => Place::Second(at),
+        })
     }
 }
 
@@ -77,28 +66,32 @@ impl<A: Memory, B: Memory> Memory for Joined<A, B> {
 
     ghost outside = { λ j. pair (length (A.Memory.cells j.first)) (beyond (A.Memory.cells j.first ++ B.Memory.cells j.second)) (A.Memory.outside j.first) (B.Memory.outside j.second) };
 
+    #[tactic(auto, using(crate::proofs::Joining::length_both))]
     fn length(&self) -> u64 {
-        self.count()
+        (self.first.length() + self.second.length()).min(LONGEST)
     }
 
     fn top_word(&self) -> u64 {
         self.first.top_word().min(self.second.top_word())
     }
 
+    #[tactic(auto, using(crate::proofs::Joining::read_first, crate::proofs::Joining::read_second))]
     fn read(&self, cell: u64) -> Result<u64, Fault> {
-        if cell >= self.length() {
-            return Err(Fault::NoCell);
+        match self.place(cell)? {
+            Place::First(at) => self.first.read(at),
+            Place::Second(at) => self.second.read(at),
         }
-        self.get(cell)
     }
 
+    #[tactic(auto, using(crate::proofs::Joining::write_first_row, crate::proofs::Joining::write_second_answer, crate::proofs::Joining::write_second_row))]
     fn write(&mut self, cell: u64, word: u64) -> Result<(), Fault> {
-        if cell >= self.length() {
-            return Err(Fault::NoCell);
-        }
+        let place = self.place(cell)?;
         if word > self.top_word() {
             return Err(Fault::TooWide);
         }
-        self.put(cell, word)
+        match place {
+            Place::First(at) => self.first.write(at, word),
+            Place::Second(at) => self.second.write(at, word),
+        }
     }
 }

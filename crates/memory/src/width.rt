@@ -2,14 +2,14 @@ ghost use Rattle.std.specs.Prelude.{◌≡◌};
 ghost use Rattle.memory.specs.Bytes.{width_of, top_of};
 
 /// How many bytes a cell of a byte memory has. No other width can be named.
-#[derive(Clone, Copy)]
+#[derive(Clone, Copy, PartialEq, Eq, Debug)]
 pub enum Width {
     /// Cells of two bytes.
-    Two,
+    Two = 2,
     /// Cells of four bytes.
-    Four,
+    Four = 4,
     /// Cells of eight bytes.
-    Eight,
+    Eight = 8,
 }
 
 impl Width {
@@ -17,11 +17,7 @@ impl Width {
     pub fn bytes(self) -> u64
         ensures { result ≡ width_of self }
     {
-        match self {
-            Width::Two => 2,
-            Width::Four => 4,
-            Width::Eight => 8,
-        }
+        self as u64
     }
 
     /// The highest number that so many bytes write.

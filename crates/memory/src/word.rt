@@ -1,4 +1,5 @@
-ghost use Rattle.std.specs.Prelude.{◌≡◌, ◌<◌, min, length, nat_lt, slice_index, slice_set};
+ghost use Rattle.std.specs.Prelude.{◌≡◌, ◌<◌, ◌≤◌, length, IfOk, IfErr};
+ghost use Rattle.memory.specs.declared.fault.Fault.TheVariants.{NoCell};
 ghost use Rattle.memory.specs.Bounds.{bounded_words};
 ghost use Rattle.memory.specs.Meaning.{lent};
 ghost use Rattle.memory.specs.Row.{front, beyond};
@@ -30,35 +31,17 @@ impl<'a> WordMemory<'a> {
 }
 
 impl WordMemory<'_> {
-    /// How many of the numbers are cells.
-    fn count(&self) -> u64
-        ensures { result ≡ min 65536 (length self.now.words.now) }
+    /// The index of a cell's number, if the row has the cell.
+    #[tactic(auto, using(crate::proofs::Words::length_front))]
+    fn place(&self, cell: u64) -> Result<usize, Fault>
+        ensures ok { IfOk result (λ at. (at ≡ cell) × (cell < length (front self.now.words.now))) }
+        ensures err { IfErr result (λ e. (e ≡ NoCell) × (length (front self.now.words.now) ≤ cell)) }
     {
-        (self.words.len() as u64).min(LONGEST)
-    }
-
-    /// Whether the row has the cell.
-    fn has(&self, cell: u64) -> bool
-        ensures { result ≡ nat_lt cell (length (front self.now.words.now)) }
-    {
-        cell < LONGEST && cell < self.words.len() as u64
-    }
-
-    /// The word of a cell of the row.
-    fn get(&self, cell: u64) -> u64
-        requires { cell < length (front self.now.words.now) }
-        ensures { result ≡ slice_index (front self.now.words.now) cell }
-    {
-        self.words[cell as usize]
-    }
-
-    /// Makes a cell of the row hold a word.
-    fn put(&mut self, cell: u64, word: u64)
-        requires { cell < length (front self.old.words.now) }
-        ensures row { front self.new.words.now ≡ slice_set (front self.old.words.now) cell word }
-        ensures outside { lent self.new.words.ghost_name (beyond self.new.words.now) ≡ lent self.old.words.ghost_name (beyond self.old.words.now) }
-    {
-        self.words[cell as usize] = word;
+        if cell < LONGEST && cell < self.words.len() as u64 {
+            Ok(cell as usize)
+        } else {
+            Err(Fault::NoCell)
+        }
     }
 }
 
@@ -71,26 +54,25 @@ impl Memory for WordMemory<'_> {
 
     ghost outside = { λ m. lent m.words.ghost_name (beyond m.words.now) };
 
+    #[tactic(auto, using(crate::proofs::Words::length_front))]
     fn length(&self) -> u64 {
-        self.count()
+        (self.words.len() as u64).min(LONGEST)
     }
 
     fn top_word(&self) -> u64 {
         u64::MAX
     }
 
+    #[tactic(auto, using(crate::proofs::Words::length_front, crate::proofs::Words::get_or_front))]
     fn read(&self, cell: u64) -> Result<u64, Fault> {
-        if !self.has(cell) {
-            return Err(Fault::NoCell);
-        }
-        Ok(self.get(cell))
+        let at = self.place(cell)?;
+        Ok(self.words[at])
     }
 
+    #[tactic(auto, using(crate::proofs::Words::length_front, crate::proofs::Words::set_front, crate::proofs::Words::set_beyond))]
     fn write(&mut self, cell: u64, word: u64) -> Result<(), Fault> {
-        if !self.has(cell) {
-            return Err(Fault::NoCell);
-        }
-        self.put(cell, word);
+        let at = self.place(cell)?;
+        self.words[at] = word;
         Ok(())
     }
 }

@@ -1,8 +1,9 @@
 -- Label order shows the laws.
 use Rattle.std.specs.Prelude.{◌≡◌, ℕ, zero, suc, true, false, cond, ◌⊎◌, ◌==◌, ◌≢◌, refl}
 use Rattle.std.proofs.Common.{sym, ◌∙◌, inl, inr, arith, eqb-true}
+use Rattle.std.proofs.lemmas.Bool.{cases_order}
 use Rattle.order.specs.Laws.{Ordered}
-use Rattle.order.specs.Lexical.{lexical_true, lexical_rest, lexical_less, compared}
+use Rattle.order.specs.Lexical.{lexical_true, lexical_rest, lexical_less}
 use Rattle.order.specs.Label.{letter, rest, spells, leads, label_key, label_before}
 
 never : (n a : ℕ) → leads n a a ≡ false
@@ -44,7 +45,7 @@ spelt_rest n a h =
 either : (n a b : ℕ) → spells n a ≡ true → spells n b ≡ true → (a ≢ b) → (leads n a b ≡ true) ⊎ (leads n b a ≡ true)
 either zero a b x y ne = absurd (ne (eqb-true a 0 x ∙ sym (eqb-true b 0 y)))
 either (suc n) a b x y ne =
-    elim (compared (letter a) (letter b)) [
+    elim (cases_order (letter a) (letter b)) [
       | inl e ↦ elim (either n (rest a) (rest b) (spelt_rest n a x) (spelt_rest n b y) (λ f. ne (omega (arith, e, f)))) [
         | inl h ↦ inl (lexical_rest (letter a) (letter b) _ e ∙ h)
         | inr h ↦ inr (lexical_rest (letter b) (letter a) _ (sym e) ∙ h)

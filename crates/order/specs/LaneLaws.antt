@@ -1,8 +1,9 @@
 -- Lane order shows the laws.
 use Rattle.std.specs.Prelude.{◌≡◌, ℕ, ◌+◌, ◌-◌, ◌%◌, ◌<◌, true, ◌⊎◌, ◌≢◌, int_lt, nat_lt, refl}
 use Rattle.std.proofs.Common.{sym, ap, ◌∙◌, inl, inr, arith, ltb-true, ltb-false, lt-ltb, le-ltb}
+use Rattle.std.proofs.lemmas.Bool.{cases_Bool, cases_order, ltb_from_iff}
 use Rattle.order.specs.Laws.{Ordered}
-use Rattle.order.specs.Lexical.{lexical, lexical_true, lexical_rest, lexical_less, compared, cases}
+use Rattle.order.specs.Lexical.{lexical, lexical_true, lexical_rest, lexical_less}
 use Rattle.order.specs.Lane.{lane_key, lane, signed, lane_before}
 
 -- how far a number of 32 bits lies above the lowest in two's complement
@@ -10,23 +11,16 @@ abbrev raised : ℕ → ℕ
 raised n = (n + 2147483648) % 4294967296
 
 nat_lt_same : (a b c d : ℕ) → (a < b → c < d) → (c < d → a < b) → nat_lt a b ≡ nat_lt c d
-nat_lt_same a b c d f g =
-    elim (cases (nat_lt a b)) [
-      | inl h ↦ h ∙ sym (lt-ltb c d (f (ltb-true a b h)))
-      | inr h ↦ elim (cases (nat_lt c d)) [
-        | inl k ↦ lt-ltb a b (g (ltb-true c d k)) ∙ sym k
-        | inr k ↦ h ∙ sym k
-      ]
-    ]
+nat_lt_same a b c d f g = ltb_from_iff (λ h. f (ltb-true a b h), λ h. lt-ltb a b (g h))
 
 signed_raised : (x y : ℕ) → x < 4294967296 → y < 4294967296 → int_lt (signed x) (signed y) ≡ nat_lt (raised x) (raised y)
 signed_raised x y p q =
-    elim (cases (nat_lt x 2147483648)) [
-      | inl h ↦ elim (cases (nat_lt y 2147483648)) [
+    elim (cases_Bool (nat_lt x 2147483648)) [
+      | inl h ↦ elim (cases_Bool (nat_lt y 2147483648)) [
         | inl k ↦ (let a = ltb-true x 2147483648 h in let b = ltb-true y 2147483648 k in rw (h, k) (nat_lt_same x y (raised x) (raised y) (λ l. omega arith) (λ l. omega arith)))
         | inr k ↦ (let a = ltb-true x 2147483648 h in let b = ltb-false y 2147483648 k in rw (h, k) (sym (le-ltb (raised x) (raised y) (omega arith))))
       ]
-      | inr h ↦ elim (cases (nat_lt y 2147483648)) [
+      | inr h ↦ elim (cases_Bool (nat_lt y 2147483648)) [
         | inl k ↦ (let a = ltb-false x 2147483648 h in let b = ltb-true y 2147483648 k in rw (h, k) (sym (lt-ltb (raised x) (raised y) (omega arith))))
         | inr k ↦ (let a = ltb-false x 2147483648 h in let b = ltb-false y 2147483648 k in rw (h, k) (nat_lt_same (4294967295 - y) (4294967295 - x) (raised x) (raised y) (λ l. omega arith) (λ l. omega arith)))
       ]
@@ -54,8 +48,8 @@ chained a b c p q =
 
 either : (a b : ℕ) → (a ≢ b) → (lane_before a b ≡ true) ⊎ (lane_before b a ≡ true)
 either a b ne =
-    elim (compared (lane a) (lane b)) [
-      | inl e ↦ elim (compared (height a) (height b)) [
+    elim (cases_order (lane a) (lane b)) [
+      | inl e ↦ elim (cases_order (height a) (height b)) [
         | inl f ↦ absurd (ne (omega (arith, e, f)))
         | inr u ↦ elim u [
           | inl h ↦ inl (by_height a b ∙ lexical_rest (lane a) (lane b) _ e ∙ lt-ltb (height a) (height b) h)

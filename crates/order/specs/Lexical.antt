@@ -1,13 +1,9 @@
 -- Comparison by one number, and on equal ones by a further test.
 use Rattle.std.specs.Prelude.{◌≡◌, ℕ, ◌<◌, Bool, true, false, cond, ◌⊎◌, ◌==◌, nat_lt, refl}
-use Rattle.std.proofs.Common.{inl, inr, arith, ltb-true, ltb-false, lt-ltb, eqb-true, eq-eqb, ne_eqb}
+use Rattle.std.proofs.Common.{inl, inr, arith, ltb-true, lt-ltb, eqb-true, eq-eqb, ne_eqb}
 
 abbrev pub lexical : ℕ → ℕ → Bool → Bool
 lexical x y rest = cond (x == y) rest (nat_lt x y)
-
-pub cases : (t : Bool) → (t ≡ true) ⊎ (t ≡ false)
-cases true = inl refl
-cases false = inr refl
 
 pub lexical_true : (x y : ℕ) (rest : Bool) → lexical x y rest ≡ true → ((x ≡ y) × (rest ≡ true)) ⊎ (x < y)
 lexical_true x y rest =
@@ -19,13 +15,3 @@ lexical_rest x y rest e = rw (eq-eqb x y e)
 
 pub lexical_less : (x y : ℕ) (rest : Bool) → x < y → lexical x y rest ≡ true
 lexical_less x y rest h = rw (ne_eqb x y (λ e. omega arith), lt-ltb x y h)
-
-pub compared : (x y : ℕ) → (x ≡ y) ⊎ ((x < y) ⊎ (y < x))
-compared x y =
-    elim (cases (nat_lt x y)) [
-      | inl h ↦ inr (inl (ltb-true x y h))
-      | inr h ↦ elim (cases (nat_lt y x)) [
-        | inl k ↦ inr (inr (ltb-true y x k))
-        | inr k ↦ inl (let p = ltb-false x y h in let q = ltb-false y x k in omega arith)
-      ]
-    ]

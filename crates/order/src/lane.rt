@@ -6,7 +6,7 @@ use super::Order;
 
 /// A key is a lane of 8 bits above a place of 32 bits in two's complement. The lower lane comes first, and within a
 /// lane the lower place.
-#[derive(Clone, Copy)]
+#[derive(Clone, Copy, PartialEq, Eq, Debug, Default)]
 pub struct LaneOrder;
 
 /// The lane of a key.
@@ -36,10 +36,6 @@ impl Order for LaneOrder {
     }
 
     fn before(&self, first: u64, second: u64) -> bool {
-        if lane(first) == lane(second) {
-            place(first) < place(second)
-        } else {
-            lane(first) < lane(second)
-        }
+        (lane(first), place(first)) < (lane(second), place(second))
     }
 }

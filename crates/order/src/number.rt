@@ -4,7 +4,7 @@ ghost use Rattle.order.specs.NumberLaws.{number_ordered};
 use super::Order;
 
 /// Every word is a key, and the smaller comes first.
-#[derive(Clone, Copy)]
+#[derive(Clone, Copy, PartialEq, Eq, Debug, Default)]
 pub struct NumberOrder;
 
 impl Order for NumberOrder {

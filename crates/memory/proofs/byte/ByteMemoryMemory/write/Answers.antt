@@ -1,6 +1,0 @@
-use Rattle.std.proofs.Common.{rules}
-use Rattle.std.proofs.lemmas.List.{set_past}
-use Rattle.memory.proofs.byte.ByteMemoryMemory.write.Goals as goal
-
-pub returns-then-cell-length : goal.returns-then-cell-length
-returns-then-cell-length c = search (rules, set_past)
