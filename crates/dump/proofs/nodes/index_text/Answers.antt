@@ -1,5 +1,6 @@
-use Rattle.std.proofs.Common.{refl, arith}
+use Rattle.std.proofs.Common.{arith}
+use Rattle.dump.proofs.Texts.{counted}
 use Rattle.dump.proofs.nodes.index_text.Goals as goal
 
-pub returns-in-Err : goal.returns-in-Err
-returns-in-Err c = let h = c.in-Err.ensures.text in record { few = λ l. absurd (omega arith); text = λ _. refl; same = c.in-Err.ensures.same }
+pub invariant_of-nodes : goal.invariant_of-nodes
+invariant_of-nodes c = record { inside = rw c.new-memory.ensures.1 (omega (arith, counted c.args.width c.new-memory.result.bytes.now)) }

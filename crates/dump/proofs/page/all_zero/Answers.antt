@@ -1,11 +1,12 @@
-use Rattle.std.proofs.Common.{sym, ◌∙◌}
-use Rattle.dump.proofs.Rows.{zero_more, zero_stop}
+use Rattle.std.proofs.Common.{rules, tests, ◌∙◌, get_or, ◌-◌, eqb, refl}
+use Rattle.std.proofs.lemmas.Iterator.{YieldsList-from_range}
+use Rattle.std.proofs.lemmas.Iterator.Search.{all_from_yields_List}
+
+use Rattle.dump.proofs.Rows.{all_zero_is}
 use Rattle.dump.proofs.page.all_zero.Goals as goal
 
-pub returns-then-word-ne0 : goal.returns-then-word-ne0
-returns-then-word-ne0 g c =
-    sym (c.loop-cell.invariant ∙ zero_stop (g.M.Memory.cells c.args.memory.now) c.loop-cell.cell c.args.end c.loop-cell-test.true c.requires (λ e. c.if-word-ne0.true (c.word.ensures ∙ e)))
-
-pub loop-cell-preserved : goal.loop-cell-preserved
-loop-cell-preserved g c =
-    c.loop-cell.invariant ∙ zero_more (g.M.Memory.cells c.args.memory.now) c.loop-cell.cell c.args.end c.loop-cell-test.true c.requires (sym c.word.ensures ∙ c.if-word-ne0.false)
+pub returns : goal.returns
+returns g c =
+    let cells = g.M.Memory.cells c.args.memory.now in
+    all_from_yields_List (λ cell. eqb (get_or cells cell 0) 0) _ _ c.all.result c.all.ensures.ran (YieldsList-from_range c.args.first c.args.end (c.args.end - c.args.first) refl refl) (λ x b q k. search (rules, tests))
+    ∙ all_zero_is cells (c.args.end - c.args.first) c.args.first c.args.end refl c.requires

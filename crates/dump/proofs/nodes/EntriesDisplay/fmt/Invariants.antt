@@ -1,0 +1,10 @@
+use Rattle.std.proofs.Common.{drop}
+use Rattle.std.specs.Fmt.{IsPlainFormatter}
+use Rattle.rules.specs.Nodes.{entries}
+use Rattle.dump.specs.Nodes.{entries_text}
+use Rattle.dump.proofs.Texts.{Wrote}
+use Rattle.dump.proofs.nodes.EntriesDisplay.fmt.Given as goal
+
+abbrev pub invariant-loop-i : goal.invariant-loop-i
+invariant-loop-i g l =
+    IsPlainFormatter l.initial.f → Wrote g.W.Write.write_str_gives l.initial.f (entries_text (drop l.i (entries l.self.0.now))) (entries_text (entries l.self.0.now)) l.f
