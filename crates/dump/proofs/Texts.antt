@@ -81,7 +81,17 @@ zero_line run first end row rows before some zero e =
     let start : run + (first - run) ≡ first = omega arith in
     rw zero (ap lines_text (pending_zeros run (first - run) first (length row) _ start some ∙ (λ i. pending run (count i) (lines_from (e i) rows))))
 
-module _ (cells : List ℕ) (run first end : ℕ) (before : run ≤ first) (below : first < length cells) (e : end ≡ first + min 32 (length cells - first)) where
+-- the same from row n on
+abbrev pub text_at : ℕ → ℕ → List ℕ → List ℕ
+text_at run n cells = text_from run (min (32 * n) (length cells)) cells
+
+module _ (cells : List ℕ) (run n first end : ℕ) (before : run ≤ min (32 * n) (length cells)) (below : 32 * n < length cells) (f : first ≡ 32 * n) (e : end ≡ min (32 * (n + 1)) (length cells)) where
+  here : min (32 * n) (length cells) ≡ first
+  here = omega arith
+
+  row : rows_of (drop first cells) ≡ between first end cells ∷ rows_of (drop end cells)
+  row = rows_more cells first end (omega arith) (omega arith)
+
   count : length (between first end cells) ≡ end - first
   count = length-between cells first end (omega arith)
 
@@ -89,21 +99,23 @@ module _ (cells : List ℕ) (run first end : ℕ) (before : run ≤ first) (belo
   last = rw count (omega arith)
 
   -- a row of zeros adds no line
-  pub zeros_first : all_zero (between first end cells) ≡ true → text_from run first cells ≡ text_from run end cells
+  pub zeros_first : all_zero (between first end cells) ≡ true → text_at run n cells ≡ text_at run (n + 1) cells
   zeros_first zero =
       let some : 0 < length (between first end cells) = rw count (omega arith) in
-      ap (λ rows. lines_text (pending run (first - run) (lines_from first rows))) (rows_more cells first end below e) ∙ zero_line run first end (between first end cells) (rows_of (drop end cells)) before some zero last
+      rw (here, ← e) (ap (λ rows. lines_text (pending run (first - run) (lines_from first rows))) row ∙ zero_line run first end (between first end cells) (rows_of (drop end cells)) (omega arith) some zero last)
 
   -- a row of words comes after the line of the zeros before it
-  pub row_first : all_zero (between first end cells) ≡ false →
-      text_from run first cells ≡ (unless_none (first - run) (zeros_text run first) ++ row_text first (between first end cells)) ++ text_from end end cells
-  row_first some =
+  pub row_first : (next : ℕ) → next ≡ end → all_zero (between first end cells) ≡ false →
+      text_at run n cells ≡ (unless_none (first - run) (zeros_text run first) ++ row_text first (between first end cells)) ++ text_at next (n + 1) cells
+  row_first next is some =
       let none : end - end ≡ 0 = omega arith in
-      rw none (ap (λ rows. lines_text (pending run (first - run) (lines_from first rows))) (rows_more cells first end below e) ∙ row_line run first end (between first end cells) (rows_of (drop end cells)) before some last ∙ sym (append_assoc (unless_none (first - run) (zeros_text run first)) _ _))
+      rw (is, here, ← e, none) (ap (λ rows. lines_text (pending run (first - run) (lines_from first rows))) row ∙ row_line run first end (between first end cells) (rows_of (drop end cells)) (omega arith) some last ∙ sym (append_assoc (unless_none (first - run) (zeros_text run first)) _ _))
 
-pub zeros_end : (cells : List ℕ) (run first : ℕ) → run ≤ first → length cells ≤ first →
-    text_from run first cells ≡ unless_none (first - run) (zeros_text run first)
-zeros_end cells run first before past = rw (drop_all first cells past) (run_line run first [] before ∙ append-nil _)
+pub zeros_end : (cells : List ℕ) (run n end : ℕ) → run ≤ min (32 * n) (length cells) → length cells ≤ 32 * n → end ≡ length cells →
+    text_at run n cells ≡ unless_none (end - run) (zeros_text run end)
+zeros_end cells run n end before past e =
+    let here : min (32 * n) (length cells) ≡ end = omega arith in
+    rw (here, drop_all end cells (omega arith)) (run_line run end [] (omega arith) ∙ append-nil _)
 
 pub cells_fit : (width : Width) (bytes : List ℕ) → count_of width bytes * width_of width ≤ length bytes
 cells_fit Two bytes = omega arith

@@ -11,9 +11,8 @@ use super::page::{Head, word};
 use memory::{ByteMemory, Memory, Width};
 use node::{entry, len};
 use std::alloc::{AllocError, Global};
-use std::array;
 use std::error::Error;
-use std::fmt;
+use std::{array, fmt};
 
 /// Why the nodes of an image are not told.
 #[derive(Clone, Copy, Debug, PartialEq, Eq)]
@@ -99,9 +98,15 @@ impl fmt::Display for Line<'_> {
         let [lock, level, count, link, high, ..] = *words;
         let latch = Latch(lock);
         let version = lock - lock % 2;
-        write!(f, "node {node}: lock word {lock} ({latch}, version {version})")?;
-        write!(f, ", level {level}, entries {count}, link {link}, high key {high}:")?;
         let entries = Entries(words);
+        write!(
+            f,
+            "node {node}: lock word {lock} ({latch}, version {version})"
+        )?;
+        write!(
+            f,
+            ", level {level}, entries {count}, link {link}, high key {high}:"
+        )?;
         writeln!(f, "{entries}")
     }
 }
@@ -120,7 +125,10 @@ impl<M: Memory> fmt::Display for Nodes<'_, M> {
     fn fmt<W: fmt::Write>(&self, f: &mut fmt::Formatter<W>) -> fmt::Result {
         for node in 0..self.count {
             let words = words_of(self.memory, node);
-            let line = Line { node, words: &words };
+            let line = Line {
+                node,
+                words: &words,
+            };
             write!(f, "{line}")?;
         }
         Ok(())
@@ -143,9 +151,11 @@ pub fn index_text(
     if count > head.cells / 32 {
         return Err(Trouble::FewNodes);
     }
-    let nodes = Nodes { memory: &memory, count };
-    let text = format!(in heap; "{head}{nodes}")?;
-    Ok(text)
+    let nodes = Nodes {
+        memory: &memory,
+        count,
+    };
+    Ok(format!(in heap; "{head}{nodes}")?)
 }
 
 #[cfg(test)]

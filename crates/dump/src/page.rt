@@ -1,6 +1,6 @@
 //! The text of an image.
 
-ghost use Rattle.std.specs.Prelude.{◌≡◌, ◌+◌, ◌-◌, ◌<◌, ◌≤◌, min, length, IfOk, Some, string_bytes, slice_index};
+ghost use Rattle.std.specs.Prelude.{◌≡◌, ◌+◌, ◌-◌, ◌*◌, ◌<◌, ◌≤◌, min, length, IfOk, Some, string_bytes, slice_index};
 ghost use Rattle.std.specs.List.{between};
 ghost use Rattle.memory.specs.Bytes.{width_of, top_of, count_of, cells_of};
 ghost use Rattle.dump.specs.Lines.{all_zero, lines_of, StandFor};
@@ -84,6 +84,19 @@ struct Span {
     ghost some: { first < end },
 }
 
+impl Span {
+    /// The cells of row `n` of so many cells.
+    fn of_row(n: u64, length: u64) -> Span
+        requires { 32 * n < length }
+        ensures first { result.first ≡ 32 * n }
+        ensures end { result.end ≡ min (32 * (n + 1)) length }
+    {
+        let first = ROW * n;
+        let end = first + ROW.min(length - first);
+        Span { first, end }
+    }
+}
+
 impl fmt::Display for Span {
     ghost output = { λ s. Some (span_text s.first s.end) };
 
@@ -123,20 +136,22 @@ pub(crate) fn word<M: Memory>(memory: &M, cell: u64) -> u64
     memory.read(cell).unwrap()
 }
 
-/// Whether the cells from `first` on, before `end`, all hold 0.
-fn all_zero<M: Memory>(memory: &M, first: u64, end: u64) -> bool
-    requires { end ≤ length (M.cells memory.now) }
-    ensures { result ≡ all_zero (between first end (M.cells memory.now)) }
-{
-    (first..end).all(|cell| word(memory, cell) == 0)
-}
-
-/// A row of a memory's cells, those of a span.
+/// The line of a row, the cells of a span.
 #[derive(Drop)]
 struct Row<'a, M: Memory> {
     memory: &'a M,
     span: Span,
     ghost inside: { span.end ≤ length (M.cells memory.now) },
+}
+
+impl<M: Memory> Row<'_, M> {
+    /// Whether its cells all hold 0.
+    fn all_zero(&self) -> bool
+        ensures { result ≡ all_zero (between self.now.span.first self.now.span.end (M.cells self.now.memory.now)) }
+    {
+        let mut cells = self.span.first..self.span.end;
+        cells.all(|cell| word(self.memory, cell) == 0)
+    }
 }
 
 impl<M: Memory> fmt::Display for Row<'_, M> {
@@ -153,14 +168,6 @@ impl<M: Memory> fmt::Display for Row<'_, M> {
     }
 }
 
-/// Where the row that begins at `first` ends.
-fn row_end(first: u64, length: u64) -> u64
-    requires { first ≤ length }
-    ensures { result ≡ first + min 32 (length - first) }
-{
-    first + ROW.min(length - first)
-}
-
 /// The lines of a memory's cells, a run of rows that are all 0 as one line.
 #[derive(Drop)]
 struct Rows<'a, M: Memory>(&'a M);
@@ -171,20 +178,21 @@ impl<M: Memory> fmt::Display for Rows<'_, M> {
     fn fmt<W: fmt::Write>(&self, f: &mut fmt::Formatter<W>) -> fmt::Result {
         let memory = self.0;
         let length = memory.length();
-        let mut zeros = 0;
         let mut first = 0;
-        while first < length {
-            let end = row_end(first, length);
-            if !all_zero(memory, first, end) {
-                let run = Zeros { first: zeros, end: first };
-                let row = Row { memory, span: Span { first, end } };
-                write!(f, "{run}{row}")?;
-                zeros = end;
+        for n in 0..length.div_ceil(ROW) {
+            let span = Span::of_row(n, length);
+            let row = Row { memory, span };
+            if !row.all_zero() {
+                let zeros = Zeros {
+                    first,
+                    end: span.first,
+                };
+                write!(f, "{zeros}{row}")?;
+                first = span.end;
             }
-            first = end;
         }
-        let run = Zeros { first: zeros, end: first };
-        write!(f, "{run}")
+        let zeros = Zeros { first, end: length };
+        write!(f, "{zeros}")
     }
 }
 
