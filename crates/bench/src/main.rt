@@ -2,7 +2,7 @@
 //! Makes one put on a leaf of twelve entries and stops after so many steps, which its argument says. Two runs that differ
 //! by one step differ by the instructions of that step; `bench/steps` measures them so.
 
-use anyhow::anyhow;
+use anyhow::Context;
 use index::Index;
 use memory::{Memory, WordMemory};
 use order::{NumberOrder, Order};
@@ -31,9 +31,7 @@ fn measured(steps: u64) -> usize {
 
 fn run(rt: &HostRuntime) -> anyhow::Result<()> {
     let args: Vec<String> = env::args(rt)?.skip(1).collect(rt.alloc())?;
-    let Some(text) = args.first() else {
-        return Err(anyhow!("the number of steps is missing"));
-    };
+    let text = args.first().context("the number of steps is missing")?;
     let accepted = measured(text.parse::<u64>()?.min(PUT));
     println!(rt; "{accepted} steps accepted")?;
     Ok(())
