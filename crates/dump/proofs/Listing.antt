@@ -1,17 +1,13 @@
 -- The words of a node, and its text piece by piece.
-use Rattle.std.proofs.Common.{◌≡◌, ℕ, zero, suc, ◌+◌, ◌-◌, ◌*◌, ◌<◌, ◌≤◌, List, [], ◌∷◌, ◌++◌, length, get_or, take, drop, set, IfOk, codes, decimal, Result, sym, refl, ap, subst, ◌∙◌, append_assoc, append-nil, arith}
+use Rattle.std.proofs.Common.{◌≡◌, ℕ, zero, suc, ◌+◌, ◌-◌, ◌*◌, ◌<◌, ◌≤◌, List, ◌++◌, length, get_or, drop, codes, decimal, ap, subst, ◌∙◌, append_assoc, arith}
 use Rattle.std.proofs.lemmas.List.Edits.{length-between}
-use Rattle.std.proofs.lemmas.List.{drop_more, drop_all, take_all, get_or-take, get_or-drop}
-use Rattle.std.proofs.lemmas.Result.{IfOk-weaker}
+use Rattle.std.proofs.lemmas.List.{drop_more, get_or-take, get_or-drop}
 use Rattle.std.specs.Array.{IsFromFnResultFrom}
 use Rattle.std.specs.Fn.{Called}
 use denote.Param.Members.{Mut}
 use Rattle.rules.specs.declared.seat.Entry.{Entry}
 use Rattle.rules.specs.Nodes.{entry}
-use Rattle.memory.specs.declared.width.Width.{Width}
-use Rattle.memory.specs.Bytes.{width_of, top_of, count_of, cells_of}
-use Rattle.dump.specs.Page.{head_text}
-use Rattle.dump.specs.Nodes.{node_words, entries_text, node_text, nodes_text, index_text}
+use Rattle.dump.specs.Nodes.{node_words, entries_text, node_text, nodes_text}
 
 -- what calls at the numbers from i on gave, where each gives v of its number and changes nothing
 module _ {F B : Type 0} (g : Mut F (ℕ × Unit {0}) B) (f : F) (v : ℕ → B) (always : (i : ℕ) (y : B) (q : F) → Called g f (i, tt) y q → (q ≡ f) × (y ≡ v i)) where
@@ -46,8 +42,3 @@ pub nodes_first : (cells ws : List ℕ) (n count : ℕ) → n < count → ws ≡
 nodes_first cells ws n count below w =
     let more : count - n ≡ suc (count - (n + 1)) = omega arith in
     rw (w, more)
-
-pub nodes_end : (cells : List ℕ) (n count : ℕ) → count ≤ n → nodes_text n (count - n) cells ≡ []
-nodes_end cells n count past =
-    let none : count - n ≡ 0 = omega arith in
-    rw none

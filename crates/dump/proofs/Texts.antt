@@ -1,17 +1,16 @@
--- Text that is appended line by line.
-use Rattle.std.proofs.Common.{◌≡◌, ℕ, ◌+◌, ◌-◌, ◌*◌, ◌<◌, ◌≤◌, min, Bool, true, false, cond, eqb, List, [], ◌∷◌, ◌++◌, length, get_or, drop, IfOk, codes, decimal, Result, sym, refl, ap, ◌∙◌, append_assoc, append-nil, arith, length-drop}
+-- Text that is written piece by piece.
+use Rattle.std.proofs.Common.{◌≡◌, ℕ, ◌+◌, ◌-◌, ◌*◌, ◌<◌, ◌≤◌, min, Bool, true, false, cond, eqb, List, [], ◌∷◌, ◌++◌, length, get_or, drop, codes, decimal, sym, refl, ap, ◌∙◌, append_assoc, append-nil, arith}
 use Rattle.std.proofs.lemmas.List.Edits.{length-between}
 use Rattle.std.proofs.lemmas.List.{drop_all}
-use Rattle.std.proofs.Output.{has_written_append, has_written_of_eq, writes_in_calls_nil}
-use Rattle.std.specs.Fmt.{HasWritten, IsPlainFormatter}
+use Rattle.std.proofs.Output.{has_written_append, has_written_of_eq}
+use Rattle.std.specs.Fmt.{HasWritten}
 use Rattle.std.specs.declared.fmt.Formatter.{Formatter}
 use Rattle.std.specs.List.{between}
 use Rattle.memory.specs.declared.width.Width.{Width}
-use Rattle.memory.specs.declared.width.Width.TheVariants.{Two, Four, Eight}
-use Rattle.memory.specs.Bytes.{width_of, top_of, count_of, cells_of, rest_of}
+use Rattle.memory.specs.Bytes.{width_of, count_of, cells_of}
 use Rattle.memory.specs.Bounds.{length_words}
-use Rattle.dump.specs.Lines.{all_zero, rows_of, Line, zeros, lines_from, lines_of}
-use Rattle.dump.specs.Page.{newline, unless_none, span_text, zeros_text, words_text, row_text, line_text, lines_text, head_text, left_text, image_text}
+use Rattle.dump.specs.Lines.{all_zero, rows_of, Line, zeros, lines_from}
+use Rattle.dump.specs.Page.{newline, unless_none, span_text, zeros_text, words_text, row_text, line_text, lines_text}
 use Rattle.dump.proofs.Rows.{between_first, between_end, rows_more, pending, pending_zeros}
 
 -- g is f after writing what stands in `whole` before `rest`
@@ -21,9 +20,6 @@ pub record Wrote {W : Type 0} (took : W → List ℕ → W → Type 0) (f : Form
   pub is : text ++ rest ≡ whole
 
 module _ {W : Type 0} (took : W → List ℕ → W → Type 0) where
-  pub wrote_none : (f : Formatter W) (whole : List ℕ) → IsPlainFormatter f → Wrote took f whole whole f
-  wrote_none f whole plain = record { text = []; by = record { wrote = writes_in_calls_nil took f.writer; plain = plain }; is = refl }
-
   pub wrote_more : (f g h : Formatter W) (a rest next whole : List ℕ) → Wrote took f rest whole g → HasWritten took g a h → rest ≡ a ++ next → Wrote took f next whole h
   wrote_more f g h a rest next whole w more e =
       record { text = w.text ++ a; by = has_written_append took f w.text g a h w.by more; is = append_assoc w.text a next ∙ ap (λ l. w.text ++ l) (sym e) ∙ w.is }
@@ -116,11 +112,6 @@ pub zeros_end : (cells : List ℕ) (run n end : ℕ) → run ≤ min (32 * n) (l
 zeros_end cells run n end before past e =
     let here : min (32 * n) (length cells) ≡ end = omega arith in
     rw (here, drop_all end cells (omega arith)) (run_line run end [] (omega arith) ∙ append-nil _)
-
-pub cells_fit : (width : Width) (bytes : List ℕ) → count_of width bytes * width_of width ≤ length bytes
-cells_fit Two bytes = omega arith
-cells_fit Four bytes = omega arith
-cells_fit Eight bytes = omega arith
 
 pub counted : (width : Width) (bytes : List ℕ) → count_of width bytes ≡ length (cells_of width bytes)
 counted width bytes = sym (length_words (width_of width) (count_of width bytes) bytes)

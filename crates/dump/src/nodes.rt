@@ -136,6 +136,7 @@ impl<M: Memory> fmt::Display for Nodes<'_, M> {
 }
 
 /// The text of an index of `count` nodes: how many cells the image has, and a line for each node.
+#[tactic(auto, using(crate::proofs::Texts::counted))]
 pub fn index_text(
     heap: Global,
     bytes: &mut [u8],

@@ -35,6 +35,7 @@ pub(crate) struct Head {
 
 impl Head {
     /// What the head of the text of an image says.
+    #[tactic(auto, using(crate::proofs::Texts::counted))]
     pub(crate) fn of(memory: &ByteMemory<'_>, width: Width) -> Head
         requires { memory.now.width ≡ width }
         ensures cells { result.cells ≡ count_of width memory.now.bytes.now }
@@ -197,6 +198,7 @@ impl<M: Memory> fmt::Display for Rows<'_, M> {
 }
 
 /// The text of an image: how many cells it has, their words by rows, and how many bytes are in no cell.
+#[tactic(auto, using(crate::proofs::Standing::lines_stand))]
 pub fn image_text(heap: Global, bytes: &mut [u8], width: Width) -> Result<String, AllocError>
     ensures text { IfOk result (λ s. string_bytes s ≡ image_text width bytes.old) }
     ensures lines { StandFor 0 (lines_of (cells_of width bytes.old)) (cells_of width bytes.old) }

@@ -1,6 +1,5 @@
-use Rattle.std.proofs.Common.{◌≡◌, ◌+◌, ◌*◌, ◌∙◌, get_or, sym, arith, rules, tests, refl}
+use Rattle.std.proofs.Common.{◌+◌, ◌*◌, ◌∙◌, get_or, sym, arith, rules, tests, refl}
 use Rattle.std.proofs.lemmas.List.{ext_get_or}
-use Rattle.dump.specs.Nodes.{node_words}
 use Rattle.dump.proofs.Listing.{node_length, node_word, made_by}
 use Rattle.dump.proofs.nodes.words_of.Goals as goal
 
