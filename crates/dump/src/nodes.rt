@@ -9,7 +9,8 @@ ghost use Rattle.dump.specs.declared.nodes.Trouble.TheVariants.{FewNodes, NoMemo
 
 use super::page::{Head, word};
 use memory::{ByteMemory, Memory, Width};
-use node::{entry, len};
+use node::Node;
+use rules::Entry;
 use std::alloc::{AllocError, Global};
 use std::error::Error;
 use std::{array, fmt};
@@ -64,18 +65,16 @@ fn words_of<M: Memory>(memory: &M, node: u64) -> [u64; 32]
     array::from_fn(|i| word(memory, 32 * node + i as u64))
 }
 
-/// The entries of a node of these words.
+/// The entries of a node.
 #[derive(Clone, Copy)]
-struct Entries<'a>(&'a [u64; 32]);
+struct Entries<'a>(Node<'a>);
 
 impl fmt::Display for Entries<'_> {
-    ghost output = { λ e. Some (entries_text (entries e.0.now)) };
+    ghost output = { λ e. Some (entries_text (entries e.0.words.now)) };
 
     fn fmt<W: fmt::Write>(&self, f: &mut fmt::Formatter<W>) -> fmt::Result {
-        for i in 0..len(self.0) {
-            let pair = entry(self.0, i);
-            let key = pair.key;
-            let value = pair.value;
+        for i in 0..self.0.len() {
+            let Entry { key, value } = self.0.entry(i);
             write!(f, " ({key}, {value})")?;
         }
         Ok(())
@@ -98,7 +97,7 @@ impl fmt::Display for Line<'_> {
         let [lock, level, count, link, high, ..] = *words;
         let latch = Latch(lock);
         let version = lock - lock % 2;
-        let entries = Entries(words);
+        let entries = Entries(Node::of(words));
         write!(
             f,
             "node {node}: lock word {lock} ({latch}, version {version})"

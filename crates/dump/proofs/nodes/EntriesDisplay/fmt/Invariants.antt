@@ -7,4 +7,4 @@ use Rattle.dump.proofs.nodes.EntriesDisplay.fmt.Given as goal
 
 abbrev pub invariant-loop-i : goal.invariant-loop-i
 invariant-loop-i g l =
-    IsPlainFormatter l.initial.f → Wrote g.W.Write.write_str_gives l.initial.f (entries_text (drop l.i (entries l.self.0.now))) (entries_text (entries l.self.0.now)) l.f
+    IsPlainFormatter l.initial.f → Wrote g.W.Write.write_str_gives l.initial.f (entries_text (drop l.i (entries l.self.0.words.now))) (entries_text (entries l.self.0.words.now)) l.f
