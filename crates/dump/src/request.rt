@@ -46,7 +46,7 @@ impl fmt::Display for Usage {
 
 impl Error for Usage {}
 
-/// The cell width that a text names.
+/// The cell width that a text names. `Width` is of another crate, so its `FromStr` cannot stand here.
 pub fn width_from(text: &str) -> Result<Width, Usage>
     ensures { result ≡ width_named text.now }
 {
@@ -69,12 +69,10 @@ pub fn count_from(text: &str) -> Result<u64, Usage>
 fn nodes_from(width: &str, count: &str) -> Result<Request, Usage>
     ensures { AsksNodes width.now count.now result }
 {
-    let nodes = count_from(count);
-    let width = width_from(width)?;
-    let count = nodes?;
+    let count = count_from(count);
     Ok(Request {
-        width,
-        nodes: Some(count),
+        width: width_from(width)?,
+        nodes: Some(count?),
     })
 }
 
