@@ -10,7 +10,6 @@ ghost use Rattle.dump.specs.declared.nodes.Trouble.TheVariants.{FewNodes, NoMemo
 use super::page::{Head, word};
 use memory::{ByteMemory, Memory, Width};
 use node::Node;
-use rules::Entry;
 use std::alloc::{AllocError, Global};
 use std::error::Error;
 use std::{array, fmt};
@@ -73,8 +72,7 @@ impl fmt::Display for Entries<'_> {
     ghost output = { λ e. Some (entries_text (entries e.0.words.now)) };
 
     fn fmt<W: fmt::Write>(&self, f: &mut fmt::Formatter<W>) -> fmt::Result {
-        for i in 0..self.0.len() {
-            let Entry { key, value } = self.0.entry(i);
+        for &[key, value] in self.0.pairs() {
             write!(f, " ({key}, {value})")?;
         }
         Ok(())

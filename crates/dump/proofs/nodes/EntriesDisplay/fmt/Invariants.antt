@@ -5,6 +5,6 @@ use Rattle.dump.specs.Nodes.{entries_text}
 use Rattle.dump.proofs.Texts.{Wrote}
 use Rattle.dump.proofs.nodes.EntriesDisplay.fmt.Given as goal
 
-abbrev pub invariant-loop-i : goal.invariant-loop-i
-invariant-loop-i g l =
-    IsPlainFormatter l.initial.f → Wrote g.W.Write.write_str_gives l.initial.f (entries_text (drop l.i (entries l.self.0.words.now))) (entries_text (entries l.self.0.words.now)) l.f
+abbrev pub invariant-loop-key : goal.invariant-loop-key
+invariant-loop-key g l =
+    IsPlainFormatter l.initial.f → Wrote g.W.Write.write_str_gives l.initial.f (entries_text (drop l.key-index (entries l.self.0.words.now))) (entries_text (entries l.self.0.words.now)) l.f
