@@ -6,8 +6,7 @@ use index::Index;
 use memory::{Memory, WordMemory};
 use order::{NumberOrder, Order};
 use rules::{Outcome, Refusal, Report};
-use std::fmt;
-use std::io;
+use std::{fmt, io};
 
 /// The word for a report.
 #[derive(Clone, Copy)]
