@@ -2,7 +2,7 @@
 //! Makes one put on a leaf of twelve entries and stops after so many steps, which its argument says. Two runs that differ
 //! by one step differ by the instructions of that step; `bench/steps` measures them so.
 
-use anyhow::anyhow;
+use anyhow::Context;
 use index::Index;
 use memory::{Memory, WordMemory};
 use order::{NumberOrder, Order};
@@ -12,35 +12,26 @@ use std::env;
 const PUT: u64 = 67;
 
 /// Makes so many steps of a seat: how many were accepted.
-fn drive<M: Memory, O: Order>(index: &mut Index<M, O>, seat: u64, steps: u64) -> u64 {
-    let mut accepted = 0u64;
-    for _ in 0..steps {
-        if index.step(seat).is_ok() {
-            accepted = accepted.saturating_add(1);
-        }
-    }
-    accepted
+fn drive<M: Memory, O: Order>(index: &mut Index<M, O>, seat: u64, steps: u64) -> usize {
+    (0..steps).filter(|_| index.step(seat).is_ok()).count()
 }
 
 /// Stores twelve keys in a leaf that holds thirteen, begins to put one of them again, and makes so many steps.
-fn measured(steps: u64) -> u64 {
+fn measured(steps: u64) -> usize {
     let mut words = [0u64; 4096];
     let mut index = Index::new(WordMemory::new(&mut words), NumberOrder);
     let _ = index.format(13);
-    let mut accepted = 0u64;
-    for i in 0..13u64 {
-        let last = i == 12;
-        let _ = index.begin_put(3, 10 * (i % 12), i);
-        accepted = drive(&mut index, 3, if last { steps } else { PUT });
+    for i in 0..12 {
+        let _ = index.begin_put(3, 10 * i, i);
+        let _ = drive(&mut index, 3, PUT);
     }
-    accepted
+    let _ = index.begin_put(3, 0, 12);
+    drive(&mut index, 3, steps)
 }
 
 fn run(rt: &HostRuntime) -> anyhow::Result<()> {
     let args: Vec<String> = env::args(rt)?.skip(1).collect(rt.alloc())?;
-    let Some(text) = args.first() else {
-        return Err(anyhow!("the number of steps is missing"));
-    };
+    let text = args.first().context("the number of steps is missing")?;
     let accepted = measured(text.parse::<u64>()?.min(PUT));
     println!(rt; "{accepted} steps accepted")?;
     Ok(())

@@ -1,4 +1,3 @@
-pub mod Arguments
 pub mod Listing
 pub mod Rows
 pub mod Standing

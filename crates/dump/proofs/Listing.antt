@@ -1,21 +1,26 @@
 -- The words of a node, and its text piece by piece.
-use Rattle.std.proofs.Common.{◌≡◌, ℕ, zero, suc, ◌+◌, ◌-◌, ◌*◌, ◌<◌, ◌≤◌, List, [], ◌∷◌, ◌++◌, length, get_or, take, drop, set, IfOk, codes, decimal, Result, sym, refl, ap, ◌∙◌, append_assoc, append-nil, arith}
+use Rattle.std.proofs.Common.{◌≡◌, ℕ, zero, suc, ◌+◌, ◌-◌, ◌*◌, ◌<◌, ◌≤◌, List, [], ◌++◌, map, length, get_or, drop, codes, decimal, sym, ap, subst, ◌∙◌, append_assoc, arith}
 use Rattle.std.proofs.lemmas.List.Edits.{length-between}
-use Rattle.std.proofs.lemmas.List.{drop_more, drop_all, take_all, get_or-take, get_or-drop}
-use Rattle.std.proofs.lemmas.Result.{IfOk-weaker}
+use Rattle.std.proofs.lemmas.List.{drop_more, length-map, get_or-map, get_or-take, get_or-drop}
+use Rattle.std.specs.Array.{IsFromFnResultFrom}
+use Rattle.std.specs.Fn.{Called}
+use denote.Param.Members.{Mut}
 use Rattle.rules.specs.declared.seat.Entry.{Entry}
 use Rattle.rules.specs.Nodes.{entry}
-use Rattle.memory.specs.declared.width.Width.{Width}
-use Rattle.memory.specs.Bytes.{width_of, top_of, count_of, cells_of}
-use Rattle.dump.specs.Page.{head_text}
-use Rattle.dump.specs.Nodes.{node_words, entries_text, node_text, nodes_text, index_text}
+use Rattle.node.specs.Values.{pair}
+use Rattle.dump.specs.Nodes.{node_words, entries_text, node_text, nodes_text}
 
--- one more of a's elements in place of b's
-pub taken_more : (a b : List ℕ) (i : ℕ) → i < length a → i < length b → set (take i a ++ drop i b) i (get_or a i 0) ≡ take (suc i) a ++ drop (suc i) b
-taken_more [] b i h k = absurd (omega arith)
-taken_more (x ∷ a) [] i h k = absurd (omega arith)
-taken_more (x ∷ a) (y ∷ b) zero h k = refl
-taken_more (x ∷ a) (y ∷ b) (suc i) h k = ap (λ r. x ∷ r) (taken_more a b i (omega arith) (omega arith))
+-- what calls at the numbers from i on gave, where each gives v of its number and changes nothing
+module _ {F B : Type 0} (g : Mut F (ℕ × Unit {0}) B) (f : F) (v : ℕ → B) (always : (i : ℕ) (y : B) (q : F) → Called g f (i, tt) y q → (q ≡ f) × (y ≡ v i)) where
+  pub made_by : (n i : ℕ) (p : F) (ys : List B) → p ≡ f → IsFromFnResultFrom g p ys i n → (k j : ℕ) (d : B) → k < n → i + k ≡ j → get_or ys j d ≡ v j
+  made_by zero i p ys e h k j d below at = absurd (omega arith)
+  made_by (suc n) i p ys e h zero j d below at =
+      let here = always i h.1 h.0 (subst (λ x. Called g x (i, tt) h.1 h.0) e h.3) in
+      let same : i ≡ j = omega arith in
+      subst (λ m. get_or ys m d ≡ v m) same (h.2.1 d ∙ here.1)
+  made_by (suc n) i p ys e h (suc k) j d below at =
+      let here = always i h.1 h.0 (subst (λ x. Called g x (i, tt) h.1 h.0) e h.3) in
+      made_by n (i + 1) h.0 ys here.0 h.4 k j d (omega arith) (omega arith)
 
 module _ (cells : List ℕ) (n : ℕ) (inside : 32 * n + 32 ≤ length cells) where
   pub node_length : length (node_words n cells) ≡ 32
@@ -26,31 +31,22 @@ module _ (cells : List ℕ) (n : ℕ) (inside : 32 * n + 32 ≤ length cells) wh
       let k : i < 32 * n + 32 - 32 * n = omega arith in
       get_or-take (32 * n + 32 - 32 * n) (drop (32 * n) cells) i 0 k ∙ get_or-drop (32 * n) cells i 0
 
-  pub all_taken : (b : List ℕ) (i : ℕ) → 32 ≤ i → length b ≡ 32 → take i (node_words n cells) ++ drop i b ≡ node_words n cells
-  all_taken b i past l = rw (take_all i (node_words n cells) (omega (arith, node_length)), drop_all i b (omega arith)) (append-nil (node_words n cells))
+apart : (k v rest : List ℕ) → codes " (" ++ (k ++ (codes ", " ++ (v ++ (codes ")" ++ rest)))) ≡ (codes " (" ++ (k ++ (codes ", " ++ (v ++ codes ")")))) ++ rest
+apart k v rest = simp append_assoc
 
-pub entry_more : (text new whole : List ℕ) (es : List Entry) (e : Entry) (i : ℕ) → i < length es → e ≡ get_or es i (entry 0 0) →
-    new ≡ text ++ (codes " (" ++ (decimal e.key ++ (codes ", " ++ (decimal e.value ++ codes ")")))) →
-    text ++ entries_text (drop i es) ≡ whole → new ++ entries_text (drop (i + 1) es) ≡ whole
-entry_more text new whole es e i below is n old =
-    rw (n, is) (simp append_assoc (rw (drop_more es i (entry 0 0) below) at old))
+entry_first : (es : List Entry) (e : Entry) (i : ℕ) → i < length es → e ≡ get_or es i (entry 0 0) →
+    entries_text (drop i es) ≡ (codes " (" ++ (decimal e.key ++ (codes ", " ++ (decimal e.value ++ codes ")")))) ++ entries_text (drop (i + 1) es)
+entry_first es e i below is = rw is (ap entries_text (drop_more es i (entry 0 0) below) ∙ apart (decimal (get_or es i (entry 0 0)).key) (decimal (get_or es i (entry 0 0)).value) (entries_text (drop (i + 1) es)))
 
-pub four_pieces : {T E : Type 0} (r : Result T E) (old one two three new a b c d : List ℕ) → one ≡ old ++ a → two ≡ one ++ b → three ≡ two ++ c →
-    IfOk r (λ _. new ≡ three ++ d) → IfOk r (λ _. new ≡ old ++ (a ++ (b ++ (c ++ d))))
-four_pieces r old one two three new a b c d p q s =
-    IfOk-weaker r (λ _. new ≡ three ++ d) (λ _. new ≡ old ++ (a ++ (b ++ (c ++ d)))) (λ _ n. n ∙ rw (s, q, p) (simp append_assoc))
+-- the first of the entries from i on, which the pairs of words make
+pub entries_first : (pairs : List (List ℕ)) (es : List Entry) (i : ℕ) → map pair pairs ≡ es → i < length pairs →
+    entries_text (drop i es) ≡ (codes " (" ++ (decimal (get_or (get_or pairs i []) 0 0) ++ (codes ", " ++ (decimal (get_or (get_or pairs i []) 1 0) ++ codes ")")))) ++ entries_text (drop (i + 1) es)
+entries_first pairs es i same below =
+    let long : length es ≡ length pairs = sym (ap length same) ∙ length-map pairs pair in
+    entry_first es (pair (get_or pairs i [])) i (omega arith) (sym (ap (λ l. get_or l i (entry 0 0)) (sym same) ∙ get_or-map pair pairs i [] (entry 0 0) below))
 
-pub node_more : (text new whole cells : List ℕ) (n count : ℕ) → n < count → new ≡ text ++ node_text n (node_words n cells) →
-    text ++ nodes_text n (count - n) cells ≡ whole → new ++ nodes_text (n + 1) (count - (n + 1)) cells ≡ whole
-node_more text new whole cells n count below e old =
+pub nodes_first : (cells ws : List ℕ) (n count : ℕ) → n < count → ws ≡ node_words n cells →
+    nodes_text n (count - n) cells ≡ node_text n ws ++ nodes_text (n + 1) (count - (n + 1)) cells
+nodes_first cells ws n count below w =
     let more : count - n ≡ suc (count - (n + 1)) = omega arith in
-    rw (e, append_assoc) (rw more at old)
-
-pub entries_end : (text whole : List ℕ) (es : List Entry) (i : ℕ) → length es ≤ i → text ++ entries_text (drop i es) ≡ whole → text ≡ whole
-entries_end text whole es i past old = sym (append-nil text) ∙ rw (drop_all i es past) at old
-
-pub index_whole : (width w : Width) (bytes bs old head new : List ℕ) (cells each top count : ℕ) → w ≡ width → bs ≡ bytes →
-    cells ≡ count_of width bytes → each ≡ width_of width → top ≡ top_of w → head ≡ old ++ head_text cells each top →
-    new ≡ head ++ nodes_text 0 count (cells_of w bs) → new ≡ old ++ index_text width count bytes
-index_whole width w bytes bs old head new cells each top count same_width same_bytes c e t h n =
-    n ∙ rw (h, c, e, t, same_width, same_bytes) (append_assoc old (head_text (count_of width bytes) (width_of width) (top_of width)) (nodes_text 0 count (cells_of width bytes)))
+    rw (w, more)

@@ -1,8 +1,8 @@
 -- Rows of cells, one after another, and the lines that stand for them.
-use Rattle.std.proofs.Common.{◌≡◌, ℕ, suc, ◌+◌, ◌-◌, ◌/◌, ◌<◌, ◌≤◌, min, true, false, cond, eqb, List, [], ◌∷◌, length, get_or, take, drop, sym, refl, ap, ◌∙◌, inl, inr, arith, length-drop}
+use Rattle.std.proofs.Common.{◌≡◌, ℕ, zero, suc, ◌&&◌, ◌+◌, ◌-◌, ◌/◌, ◌<◌, ◌≤◌, min, false, cond, eqb, List, [], ◌∷◌, length, get_or, take, drop, sym, refl, ap, ◌∙◌, inl, inr, arith, length-drop}
 use Rattle.std.proofs.lemmas.List.{drop_more, drop-drop, drop_all, take_all}
 use Rattle.std.proofs.lemmas.Bool.{cases_eq, cases_lt, eq-eqb, ne_eqb}
-use Rattle.std.specs.List.{between}
+use Rattle.std.specs.List.{between, list_all, range_with_len}
 use Rattle.dump.specs.Lines.{cut, rows_of, all_zero, Line, zeros, words, zeros_before}
 
 pub between_first : (xs : List ℕ) (i j : ℕ) → i < j → j ≤ length xs → between i j xs ≡ get_or xs i 0 ∷ between (i + 1) j xs
@@ -16,14 +16,11 @@ between_end xs i j past =
     let none : j - i ≡ 0 = omega arith in
     rw none
 
-pub zero_more : (xs : List ℕ) (i j : ℕ) → i < j → j ≤ length xs → get_or xs i 0 ≡ 0 → all_zero (between i j xs) ≡ all_zero (between (i + 1) j xs)
-zero_more xs i j below within e = ap all_zero (between_first xs i j below within) ∙ rw e
-
-pub zero_stop : (xs : List ℕ) (i j : ℕ) → i < j → j ≤ length xs → (get_or xs i 0 ≡ 0 → ⊥) → all_zero (between i j xs) ≡ false
-zero_stop xs i j below within ne = ap all_zero (between_first xs i j below within) ∙ rw (ne_eqb (get_or xs i 0) 0 ne)
-
-pub zero_end : (xs : List ℕ) (i j : ℕ) → j ≤ i → all_zero (between i j xs) ≡ true
-zero_end xs i j past = ap all_zero (between_end xs i j past)
+-- whether the cells from i on, before j, hold 0, one after another
+pub all_zero_is : (xs : List ℕ) (n i j : ℕ) → j - i ≡ n → j ≤ length xs → list_all (λ cell. eqb (get_or xs cell 0) 0) (range_with_len i n) ≡ all_zero (between i j xs)
+all_zero_is xs zero i j e within = rw (between_end xs i j (omega arith))
+all_zero_is xs (suc n) i j e within =
+    rw (between_first xs i j (omega arith) within) (ap (λ b. eqb (get_or xs i 0) 0 && b) (all_zero_is xs n (i + 1) j (omega arith) within))
 
 -- the first row, and those of the other cells
 rows_step : (xs : List ℕ) → 0 < length xs → rows_of xs ≡ take 32 xs ∷ rows_of (drop 32 xs)

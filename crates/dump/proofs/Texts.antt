@@ -1,38 +1,55 @@
--- Text that is appended line by line.
-use Rattle.std.proofs.Common.{◌≡◌, ℕ, ◌+◌, ◌-◌, ◌*◌, ◌<◌, ◌≤◌, min, Bool, true, false, cond, eqb, List, [], ◌∷◌, ◌++◌, length, get_or, drop, IfOk, codes, decimal, Result, sym, refl, ap, ◌∙◌, append_assoc, append-nil, arith, length-drop}
+-- Text that is written piece by piece.
+use Rattle.std.proofs.Common.{◌≡◌, ℕ, ◌+◌, ◌-◌, ◌*◌, ◌<◌, ◌≤◌, min, Bool, true, false, cond, eqb, List, [], ◌∷◌, ◌++◌, length, get_or, drop, codes, decimal, sym, refl, ap, ◌∙◌, append_assoc, append-nil, arith}
 use Rattle.std.proofs.lemmas.List.Edits.{length-between}
 use Rattle.std.proofs.lemmas.List.{drop_all}
-use Rattle.std.proofs.lemmas.Result.{IfOk-weaker}
+use Rattle.std.proofs.Output.{has_written_append, has_written_of_eq}
+use Rattle.std.specs.Fmt.{HasWritten}
+use Rattle.std.specs.declared.fmt.Formatter.{Formatter}
 use Rattle.std.specs.List.{between}
 use Rattle.memory.specs.declared.width.Width.{Width}
-use Rattle.memory.specs.declared.width.Width.TheVariants.{Two, Four, Eight}
-use Rattle.memory.specs.Bytes.{width_of, top_of, count_of, cells_of, rest_of}
+use Rattle.memory.specs.Bytes.{width_of, count_of, cells_of}
 use Rattle.memory.specs.Bounds.{length_words}
-use Rattle.dump.specs.Lines.{all_zero, rows_of, Line, zeros, lines_from, lines_of}
-use Rattle.dump.specs.Page.{newline, unless_none, span_text, zeros_text, words_text, row_text, line_text, lines_text, head_text, left_text, image_text}
+use Rattle.dump.specs.Lines.{all_zero, rows_of, Line, zeros, lines_from}
+use Rattle.dump.specs.Page.{newline, unless_none, span_text, zeros_text, words_text, row_text, line_text, lines_text}
 use Rattle.dump.proofs.Rows.{between_first, between_end, rows_more, pending, pending_zeros}
 
--- one piece after another
-pub appended : {T E : Type 0} (r : Result T E) (old mid new a b : List ℕ) → mid ≡ old ++ a → IfOk r (λ _. new ≡ mid ++ b) → IfOk r (λ _. new ≡ old ++ (a ++ b))
-appended r old mid new a b m = IfOk-weaker r (λ _. new ≡ mid ++ b) (λ _. new ≡ old ++ (a ++ b)) (λ _ n. n ∙ ap (λ l. l ++ b) m ∙ append_assoc old a b)
+-- g is f after writing what stands in `whole` before `rest`
+pub record Wrote {W : Type 0} (took : W → List ℕ → W → Type 0) (f : Formatter W) (rest whole : List ℕ) (g : Formatter W) : Type 0 where
+  pub text : List ℕ
+  pub by : HasWritten took f text g
+  pub is : text ++ rest ≡ whole
 
-regroup : (a b c d : List ℕ) → ((a ++ b) ++ c) ++ d ≡ a ++ (b ++ (c ++ d))
-regroup a b c d = simp append_assoc
+module _ {W : Type 0} (took : W → List ℕ → W → Type 0) where
+  pub wrote_more : (f g h : Formatter W) (a rest next whole : List ℕ) → Wrote took f rest whole g → HasWritten took g a h → rest ≡ a ++ next → Wrote took f next whole h
+  wrote_more f g h a rest next whole w more e =
+      record { text = w.text ++ a; by = has_written_append took f w.text g a h w.by more; is = append_assoc w.text a next ∙ ap (λ l. w.text ++ l) (sym e) ∙ w.is }
 
--- a word more of a row
-pub word_more : (text new whole cells : List ℕ) (cell end word : ℕ) → cell < end → end ≤ length cells → word ≡ get_or cells cell 0 →
-    new ≡ text ++ (codes " " ++ decimal word) → text ++ words_text (between cell end cells) ≡ whole → new ++ words_text (between (cell + 1) end cells) ≡ whole
-word_more text new whole cells cell end word below within w e old =
-    rw (e, append_assoc, w) (rw (between_first cells cell end below within) at old)
+  pub wrote_all : (f g : Formatter W) (rest whole : List ℕ) → Wrote took f rest whole g → rest ≡ [] → HasWritten took f whole g
+  wrote_all f g rest whole w e =
+      has_written_of_eq took f w.text whole g (sym (append-nil w.text) ∙ ap (λ l. w.text ++ l) (sym e) ∙ w.is) w.by
 
-pub row_whole : {T E : Type 0} (r : Result T E) (old start text new cells : List ℕ) (first cell end : ℕ) → first < end → end ≤ length cells → end ≤ cell →
-    start ≡ old ++ span_text first end → text ++ words_text (between cell end cells) ≡ start ++ words_text (between first end cells) →
-    IfOk r (λ _. new ≡ text ++ newline) → IfOk r (λ _. new ≡ old ++ row_text first (between first end cells))
-row_whole r old start text new cells first cell end some within past s t n =
-    let row : List ℕ = between first end cells in
-    let last : first + length row ≡ end = rw (length-between cells first end within) (omega arith) in
-    let whole : text ≡ start ++ words_text row = sym (append-nil text) ∙ rw (between_end cells cell end past) at t in
-    IfOk-weaker r (λ _. new ≡ text ++ newline) (λ _. new ≡ old ++ row_text first row) (λ _ e. e ∙ ap (λ l. l ++ newline) (whole ∙ ap (λ l. l ++ words_text row) s) ∙ regroup old (span_text first end) (words_text row) newline ∙ ap (λ m. old ++ (span_text first m ++ (words_text row ++ newline))) (sym last)) n
+  pub wrote_as : (f g : Formatter W) (rest next whole : List ℕ) → Wrote took f rest whole g → rest ≡ next → Wrote took f next whole g
+  wrote_as f g rest next whole w e = record { text = w.text; by = w.by; is = ap (λ l. w.text ++ l) (sym e) ∙ w.is }
+
+  pub wrote_last : (f g h : Formatter W) (a rest whole : List ℕ) → Wrote took f rest whole g → HasWritten took g a h → rest ≡ a → HasWritten took f whole h
+  wrote_last f g h a rest whole w more e = wrote_all f h [] whole (wrote_more f g h a rest [] whole w more (e ∙ sym (append-nil a))) refl
+
+apart : (w rest : List ℕ) → codes " " ++ (w ++ rest) ≡ (codes " " ++ w) ++ rest
+apart w rest = refl
+
+pub words_first : (cells : List ℕ) (cell end word : ℕ) → cell < end → end ≤ length cells → word ≡ get_or cells cell 0 →
+    words_text (between cell end cells) ≡ (codes " " ++ decimal word) ++ words_text (between (cell + 1) end cells)
+words_first cells cell end word below within w = rw w (ap words_text (between_first cells cell end below within) ∙ apart (decimal (get_or cells cell 0)) _)
+
+pub words_end : (cells : List ℕ) (cell end : ℕ) → end ≤ cell → words_text (between cell end cells) ≡ []
+words_end cells cell end past = ap words_text (between_end cells cell end past)
+
+-- the parts of the line of a row
+pub row_is : (cells : List ℕ) (first end : ℕ) → first < end → end ≤ length cells →
+    span_text first end ++ (words_text (between first end cells) ++ newline) ≡ row_text first (between first end cells)
+row_is cells first end some within =
+    let last : first + length (between first end cells) ≡ end = rw (length-between cells first end within) (omega arith) in
+    ap (λ m. span_text first m ++ (words_text (between first end cells) ++ newline)) (sym last)
 
 -- the lines of the cells from `first` on, after the zeros from `run` on that have no line yet
 abbrev pub text_from : ℕ → ℕ → List ℕ → List ℕ
@@ -60,57 +77,41 @@ zero_line run first end row rows before some zero e =
     let start : run + (first - run) ≡ first = omega arith in
     rw zero (ap lines_text (pending_zeros run (first - run) first (length row) _ start some ∙ (λ i. pending run (count i) (lines_from (e i) rows))))
 
-module _ (cells : List ℕ) (run first end : ℕ) (before : run ≤ first) (below : first < length cells) (e : end ≡ first + min 32 (length cells - first)) where
+-- the same from row n on
+abbrev pub text_at : ℕ → ℕ → List ℕ → List ℕ
+text_at run n cells = text_from run (min (32 * n) (length cells)) cells
+
+module _ (cells : List ℕ) (run n first end : ℕ) (before : run ≤ min (32 * n) (length cells)) (below : 32 * n < length cells) (f : first ≡ 32 * n) (e : end ≡ min (32 * (n + 1)) (length cells)) where
+  here : min (32 * n) (length cells) ≡ first
+  here = omega arith
+
+  row : rows_of (drop first cells) ≡ between first end cells ∷ rows_of (drop end cells)
+  row = rows_more cells first end (omega arith) (omega arith)
+
   count : length (between first end cells) ≡ end - first
   count = length-between cells first end (omega arith)
 
   last : first + length (between first end cells) ≡ end
   last = rw count (omega arith)
 
-  -- a row more of zeros
-  pub zeros_more : (text whole : List ℕ) → all_zero (between first end cells) ≡ true → text ++ text_from run first cells ≡ whole → text ++ text_from run end cells ≡ whole
-  zeros_more text whole zero old =
+  -- a row of zeros adds no line
+  pub zeros_first : all_zero (between first end cells) ≡ true → text_at run n cells ≡ text_at run (n + 1) cells
+  zeros_first zero =
       let some : 0 < length (between first end cells) = rw count (omega arith) in
-      ap (λ l. text ++ l) (sym (ap (λ rows. lines_text (pending run (first - run) (lines_from first rows))) (rows_more cells first end below e) ∙ zero_line run first end (between first end cells) (rows_of (drop end cells)) before some zero last)) ∙ old
+      rw (here, ← e) (ap (λ rows. lines_text (pending run (first - run) (lines_from first rows))) row ∙ zero_line run first end (between first end cells) (rows_of (drop end cells)) (omega arith) some zero last)
 
-  -- a row more of words
-  pub words_more : (text mid new whole : List ℕ) → all_zero (between first end cells) ≡ false →
-      mid ≡ text ++ unless_none (first - run) (zeros_text run first) → new ≡ mid ++ row_text first (between first end cells) →
-      text ++ text_from run first cells ≡ whole → new ++ text_from end end cells ≡ whole
-  words_more text mid new whole some m w old =
+  -- a row of words comes after the line of the zeros before it
+  pub row_first : (next : ℕ) → next ≡ end → all_zero (between first end cells) ≡ false →
+      text_at run n cells ≡ (unless_none (first - run) (zeros_text run first) ++ row_text first (between first end cells)) ++ text_at next (n + 1) cells
+  row_first next is some =
       let none : end - end ≡ 0 = omega arith in
-      let step = ap (λ rows. lines_text (pending run (first - run) (lines_from first rows))) (rows_more cells first end below e) ∙ row_line run first end (between first end cells) (rows_of (drop end cells)) before some last in
-      rw (none, w, m) (regroup text _ _ _ ∙ ap (λ l. text ++ l) (sym step) ∙ old)
+      rw (is, here, ← e, none) (ap (λ rows. lines_text (pending run (first - run) (lines_from first rows))) row ∙ row_line run first end (between first end cells) (rows_of (drop end cells)) (omega arith) some last ∙ sym (append_assoc (unless_none (first - run) (zeros_text run first)) _ _))
 
-pub rows_end : {T E : Type 0} (r : Result T E) (text new whole cells : List ℕ) (run first : ℕ) → run ≤ first → length cells ≤ first →
-    text ++ text_from run first cells ≡ whole → IfOk r (λ _. new ≡ text ++ unless_none (first - run) (zeros_text run first)) → IfOk r (λ _. new ≡ whole)
-rows_end r text new whole cells run first before past old =
-    let last : text_from run first cells ≡ unless_none (first - run) (zeros_text run first) = rw (drop_all first cells past) (run_line run first [] before ∙ append-nil _) in
-    IfOk-weaker r (λ _. new ≡ text ++ unless_none (first - run) (zeros_text run first)) (λ _. new ≡ whole) (λ _ e. e ∙ ap (λ l. text ++ l) (sym last) ∙ old)
+pub zeros_end : (cells : List ℕ) (run n end : ℕ) → run ≤ min (32 * n) (length cells) → length cells ≤ 32 * n → end ≡ length cells →
+    text_at run n cells ≡ unless_none (end - run) (zeros_text run end)
+zeros_end cells run n end before past e =
+    let here : min (32 * n) (length cells) ≡ end = omega arith in
+    rw (here, drop_all end cells (omega arith)) (run_line run end [] (omega arith) ∙ append-nil _)
 
-cells_fit : (width : Width) (bytes : List ℕ) → count_of width bytes * width_of width ≤ length bytes
-cells_fit Two bytes = omega arith
-cells_fit Four bytes = omega arith
-cells_fit Eight bytes = omega arith
-
-counted : (width : Width) (bytes : List ℕ) → length (cells_of width bytes) ≡ count_of width bytes
-counted width bytes = length_words (width_of width) (count_of width bytes) bytes
-
--- the memory over an image has the image's width and bytes, w and bs
-pub cells_counted : (width w : Width) (bytes bs : List ℕ) (count : ℕ) → w ≡ width → bs ≡ bytes → count ≡ length (cells_of w bs) → count ≡ count_of width bytes
-cells_counted width w bytes bs _ same_width same_bytes c = c ∙ (λ i. length (cells_of (same_width i) (same_bytes i))) ∙ counted width bytes
-
-module _ (width w : Width) (bytes bs : List ℕ) (count each : ℕ) (same_width : w ≡ width) (same_bytes : bs ≡ bytes) (c : count ≡ length (cells_of w bs)) (e : each ≡ width_of width) where
-  number : count ≡ count_of width bytes
-  number = cells_counted width w bytes bs count same_width same_bytes c
-
-  pub cells_take : count * each ≤ length bytes
-  cells_take = rw (number, e) (cells_fit width bytes)
-
-  pub image_whole : {T E : Type 0} (r : Result T E) (old head mid new : List ℕ) (top : ℕ) → top ≡ top_of w →
-      head ≡ old ++ head_text count each top → mid ≡ head ++ lines_text (lines_of (cells_of w bs)) →
-      IfOk r (λ _. new ≡ mid ++ unless_none (length bytes - count * each) (left_text (length bytes - count * each))) → IfOk r (λ _. new ≡ old ++ image_text width bytes)
-  image_whole r old head mid new top t h m =
-      let left : length (rest_of width bytes) ≡ length bytes - count_of width bytes * width_of width = length-drop (count_of width bytes * width_of width) bytes in
-      IfOk-weaker r (λ _. new ≡ mid ++ unless_none (length bytes - count * each) (left_text (length bytes - count * each))) (λ _. new ≡ old ++ image_text width bytes)
-      (λ _ n. n ∙ rw (m, h, left, number, e, t, same_width, same_bytes) (append_assoc (old ++ head_text (count_of width bytes) (width_of width) (top_of width)) _ _ ∙ append_assoc old _ _))
+pub counted : (width : Width) (bytes : List ℕ) → count_of width bytes ≡ length (cells_of width bytes)
+counted width bytes = sym (length_words (width_of width) (count_of width bytes) bytes)

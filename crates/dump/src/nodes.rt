@@ -1,21 +1,21 @@
 //! The text of an index's nodes.
 
-ghost use Rattle.std.specs.Prelude.{◌≡◌, ◌+◌, ◌*◌, ◌/◌, ◌<◌, ◌≤◌, T, ◌++◌, length, Some, Err, string_bytes, MatchResult, OnOk, nat_le};
+ghost use Rattle.std.specs.Prelude.{◌≡◌, ◌+◌, ◌*◌, ◌/◌, ◌<◌, ◌≤◌, length, Some, Err, string_bytes, MatchResult};
 ghost use Rattle.memory.specs.Bytes.{count_of};
 ghost use Rattle.rules.specs.Nodes.{entries};
-ghost use Rattle.dump.specs.Nodes.{node_words, latch_text, top_text, links_text, entries_text, node_text, nodes_text, index_text};
+ghost use Rattle.dump.specs.Nodes.{node_words, latch_text, entries_text, node_text, nodes_text, index_text};
 ghost use Rattle.dump.specs.Troubles.{trouble_text};
 ghost use Rattle.dump.specs.declared.nodes.Trouble.TheVariants.{FewNodes, NoMemory};
 
-use super::page::{word, write_head};
+use super::page::{Head, word};
 use memory::{ByteMemory, Memory, Width};
-use node::{entry, len};
+use node::Node;
 use std::alloc::{AllocError, Global};
 use std::error::Error;
-use std::fmt;
+use std::{array, fmt};
 
 /// Why the nodes of an image are not told.
-#[derive(Clone, Copy, Debug)]
+#[derive(Clone, Copy, Debug, PartialEq, Eq)]
 pub enum Trouble {
     /// The image has fewer nodes than were asked for.
     FewNodes,
@@ -23,45 +23,36 @@ pub enum Trouble {
     NoMemory,
 }
 
-impl Trouble {
-    /// What is wrong.
-    fn message(self) -> &'static str
-        ensures { result.now ≡ trouble_text self }
-    {
-        match self {
-            Trouble::FewNodes => "the image has fewer nodes than the node count says",
-            Trouble::NoMemory => "there is no memory for the text",
-        }
-    }
-}
-
 impl fmt::Display for Trouble {
     ghost output = { λ t. Some (trouble_text t) };
 
     fn fmt<W: fmt::Write>(&self, f: &mut fmt::Formatter<W>) -> fmt::Result {
-        f.write_str(self.message())
+        f.write_str(match self {
+            Trouble::FewNodes => "the image has fewer nodes than the node count says",
+            Trouble::NoMemory => "there is no memory for the text",
+        })
     }
 }
 
 impl Error for Trouble {}
 
+impl From<AllocError> for Trouble {
+    ghost from_gives = { λ _ t. t ≡ NoMemory };
+
+    fn from(_: AllocError) -> Trouble {
+        Trouble::NoMemory
+    }
+}
+
 /// The latch of a lock word.
 #[derive(Clone, Copy)]
 struct Latch(u64);
-
-impl Latch {
-    fn name(self) -> &'static str
-        ensures { result.now ≡ latch_text self.0 }
-    {
-        if self.0 % 2 == 0 { "free" } else { "latched" }
-    }
-}
 
 impl fmt::Display for Latch {
     ghost output = { λ l. Some (latch_text l.0) };
 
     fn fmt<W: fmt::Write>(&self, f: &mut fmt::Formatter<W>) -> fmt::Result {
-        f.write_str(self.name())
+        f.write_str(if self.0 % 2 == 0 { "free" } else { "latched" })
     }
 }
 
@@ -70,95 +61,79 @@ fn words_of<M: Memory>(memory: &M, node: u64) -> [u64; 32]
     requires { 32 * node + 32 ≤ length (M.cells memory.now) }
     ensures { result ≡ node_words node (M.cells memory.now) }
 {
-    let mut words = [0; 32];
-    for i in 0..32 {
-        words[i] = word(memory, 32 * node + i as u64);
+    array::from_fn(|i| word(memory, 32 * node + i as u64))
+}
+
+/// The entries of a node.
+#[derive(Clone, Copy)]
+struct Entries<'a>(Node<'a>);
+
+impl fmt::Display for Entries<'_> {
+    ghost output = { λ e. Some (entries_text (entries e.0.words.now)) };
+
+    fn fmt<W: fmt::Write>(&self, f: &mut fmt::Formatter<W>) -> fmt::Result {
+        for &[key, value] in self.0.pairs() {
+            write!(f, " ({key}, {value})")?;
+        }
+        Ok(())
     }
-    words
 }
 
-/// Appends a node's number and its lock word, with latch and version.
-fn write_lock(text: &mut String, node: u64, words: &[u64; 32]) -> Result<(), AllocError>
-    ensures { OnOk result (string_bytes text.new ≡ string_bytes text.old ++ top_text node words.now) }
-{
-    let lock = words[0];
-    let latch = Latch(lock);
-    let version = lock - lock % 2;
-    write!(
-        text,
-        "node {node}: lock word {lock} ({latch}, version {version})"
-    )
+/// The line of a node: its lock word with latch and version, its level, number of entries, link and high key, and its
+/// entries.
+#[derive(Clone, Copy)]
+struct Line<'a> {
+    node: u64,
+    words: &'a [u64; 32],
 }
 
-/// Appends a node's level, number of entries, link and high key.
-fn write_links(text: &mut String, words: &[u64; 32]) -> Result<(), AllocError>
-    ensures { OnOk result (string_bytes text.new ≡ string_bytes text.old ++ links_text words.now) }
-{
-    let level = words[1];
-    let count = words[2];
-    let link = words[3];
-    let high = words[4];
-    write!(
-        text,
-        ", level {level}, entries {count}, link {link}, high key {high}:"
-    )
-}
+impl fmt::Display for Line<'_> {
+    ghost output = { λ l. Some (node_text l.node l.words.now) };
 
-/// Appends a node's entries.
-fn write_entries(text: &mut String, words: &[u64; 32]) -> Result<(), AllocError>
-    ensures { OnOk result (string_bytes text.new ≡ string_bytes text.old ++ entries_text (entries words.now)) }
-{
-    for i in 0..len(words) {
-        let pair = entry(words, i);
-        let key = pair.key;
-        let value = pair.value;
-        write!(text, " ({key}, {value})")?;
+    fn fmt<W: fmt::Write>(&self, f: &mut fmt::Formatter<W>) -> fmt::Result {
+        let Line { node, words } = *self;
+        let [lock, level, count, link, high, ..] = *words;
+        let latch = Latch(lock);
+        let version = lock - lock % 2;
+        let entries = Entries(Node::of(words));
+        write!(
+            f,
+            "node {node}: lock word {lock} ({latch}, version {version})"
+        )?;
+        write!(
+            f,
+            ", level {level}, entries {count}, link {link}, high key {high}:"
+        )?;
+        writeln!(f, "{entries}")
     }
-    Ok(())
 }
 
-/// Appends the line of a node.
-fn write_node(text: &mut String, node: u64, words: &[u64; 32]) -> Result<(), AllocError>
-    ensures { OnOk result (string_bytes text.new ≡ string_bytes text.old ++ node_text node words.now) }
-{
-    write_lock(text, node, words)?;
-    write_links(text, words)?;
-    write_entries(text, words)?;
-    writeln!(text)
-}
-
-/// Appends the lines of the first `count` nodes.
-fn write_nodes<M: Memory>(text: &mut String, memory: &M, count: u64) -> Result<(), AllocError>
-    requires { count ≤ length (M.cells memory.now) / 32 }
-    ensures { OnOk result (string_bytes text.new ≡ string_bytes text.old ++ nodes_text 0 count (M.cells memory.now)) }
-{
-    for node in 0..count {
-        write_node(text, node, &words_of(memory, node))?;
-    }
-    Ok(())
-}
-
-/// Appends the text of an index of `count` nodes, if the image has so many: whether it has.
-fn write_index(
-    text: &mut String,
-    bytes: &mut [u8],
-    width: Width,
+/// The lines of the first `count` nodes.
+#[derive(Drop)]
+struct Nodes<'a, M: Memory> {
+    memory: &'a M,
     count: u64,
-) -> Result<bool, AllocError>
-    ensures text { MatchResult result (λ fits. (fits ≡ nat_le count (count_of width bytes.old / 32)) × (T fits → string_bytes text.new ≡ string_bytes text.old ++ index_text width count bytes.old)) (λ _. count ≤ count_of width bytes.old / 32) }
-    ensures same { bytes.new ≡ bytes.old }
-{
-    let memory = ByteMemory::new(bytes, width);
-    let cells = memory.length();
-    if count > cells / 32 {
-        return Ok(false);
+    ghost inside: { count ≤ length (M.cells memory.now) / 32 },
+}
+
+impl<M: Memory> fmt::Display for Nodes<'_, M> {
+    ghost output = { λ n. Some (nodes_text 0 n.count (M.cells n.memory.now)) };
+
+    fn fmt<W: fmt::Write>(&self, f: &mut fmt::Formatter<W>) -> fmt::Result {
+        for node in 0..self.count {
+            let words = words_of(self.memory, node);
+            let line = Line {
+                node,
+                words: &words,
+            };
+            write!(f, "{line}")?;
+        }
+        Ok(())
     }
-    write_head(text, cells, width.bytes(), memory.top_word())?;
-    write_nodes(text, &memory, count)?;
-    Ok(true)
 }
 
 /// The text of an index of `count` nodes: how many cells the image has, and a line for each node.
+#[tactic(auto, using(crate::proofs::Texts::counted))]
 pub fn index_text(
     heap: Global,
     bytes: &mut [u8],
@@ -169,12 +144,16 @@ pub fn index_text(
     ensures text { count ≤ count_of width bytes.old / 32 → MatchResult result (λ s. string_bytes s ≡ index_text width count bytes.old) (λ e. e ≡ NoMemory) }
     ensures same { bytes.new ≡ bytes.old }
 {
-    let mut text = String::new(heap);
-    match write_index(&mut text, bytes, width, count) {
-        Ok(true) => Ok(text),
-        Ok(false) => Err(Trouble::FewNodes),
-        Err(AllocError) => Err(Trouble::NoMemory),
+    let memory = ByteMemory::new(bytes, width);
+    let head = Head::of(&memory, width);
+    if count > head.cells / 32 {
+        return Err(Trouble::FewNodes);
     }
+    let nodes = Nodes {
+        memory: &memory,
+        count,
+    };
+    Ok(format!(in heap; "{head}{nodes}")?)
 }
 
 #[cfg(test)]

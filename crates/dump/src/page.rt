@@ -1,8 +1,8 @@
 //! The text of an image.
 
-ghost use Rattle.std.specs.Prelude.{◌≡◌, ◌+◌, ◌-◌, ◌<◌, ◌≤◌, min, ◌++◌, length, IfOk, Some, string_bytes, OnOk, slice_index};
+ghost use Rattle.std.specs.Prelude.{◌≡◌, ◌+◌, ◌-◌, ◌*◌, ◌<◌, ◌≤◌, min, length, IfOk, Some, string_bytes, slice_index};
 ghost use Rattle.std.specs.List.{between};
-ghost use Rattle.memory.specs.Bytes.{cells_of};
+ghost use Rattle.memory.specs.Bytes.{width_of, top_of, count_of, cells_of};
 ghost use Rattle.dump.specs.Lines.{all_zero, lines_of, StandFor};
 ghost use Rattle.dump.specs.Page.{plural_of, unless_none, head_text, span_text, zeros_text, row_text, lines_text, left_text, image_text};
 
@@ -17,80 +17,116 @@ const ROW: u64 = 32;
 #[derive(Clone, Copy)]
 struct Plural(u64);
 
-impl Plural {
-    fn ending(self) -> &'static str
-        ensures { result.now ≡ plural_of self.0 }
-    {
-        if self.0 == 1 { "" } else { "s" }
-    }
-}
-
 impl fmt::Display for Plural {
     ghost output = { λ p. Some (plural_of p.0) };
 
     fn fmt<W: fmt::Write>(&self, f: &mut fmt::Formatter<W>) -> fmt::Result {
-        f.write_str(self.ending())
+        f.write_str(if self.0 == 1 { "" } else { "s" })
     }
 }
 
-/// Appends the line that tells how many cells there are and what they take.
-pub(crate) fn write_head(
-    text: &mut String,
-    cells: u64,
-    bytes: u64,
-    top: u64,
-) -> Result<(), AllocError>
-    ensures { OnOk result (string_bytes text.new ≡ string_bytes text.old ++ head_text cells bytes top) }
-{
-    let s = Plural(cells);
-    writeln!(text, "{cells} cell{s} of {bytes} bytes, top word {top}")
+/// The line that tells how many cells there are and what they take.
+#[derive(Clone, Copy)]
+pub(crate) struct Head {
+    pub cells: u64,
+    pub bytes: u64,
+    pub top: u64,
 }
 
-/// Appends the line of the bytes that are in no cell.
-fn write_left(text: &mut String, count: u64) -> Result<(), AllocError>
-    ensures { OnOk result (string_bytes text.new ≡ string_bytes text.old ++ left_text count) }
-{
-    let s = Plural(count);
-    writeln!(text, "{count} byte{s} left over")
-}
-
-/// Appends the line of the bytes that are in no cell, unless there are none.
-fn write_rest(text: &mut String, count: u64) -> Result<(), AllocError>
-    ensures { OnOk result (string_bytes text.new ≡ string_bytes text.old ++ unless_none count (left_text count)) }
-{
-    if count == 0 {
-        return Ok(());
+impl Head {
+    /// What the head of the text of an image says.
+    #[tactic(auto, using(crate::proofs::Texts::counted))]
+    pub(crate) fn of(memory: &ByteMemory<'_>, width: Width) -> Head
+        requires { memory.now.width ≡ width }
+        ensures cells { result.cells ≡ count_of width memory.now.bytes.now }
+        ensures bytes { result.bytes ≡ width_of width }
+        ensures top { result.top ≡ top_of width }
+    {
+        Head {
+            cells: memory.length(),
+            bytes: width.bytes(),
+            top: memory.top_word(),
+        }
     }
-    write_left(text, count)
 }
 
-/// Appends the beginning of the line of the cells from `first` on, before `end`.
-fn write_span(text: &mut String, first: u64, end: u64) -> Result<(), AllocError>
-    requires { first < end }
-    ensures { OnOk result (string_bytes text.new ≡ string_bytes text.old ++ span_text first end) }
-{
-    let last = end - 1;
-    write!(text, "cells {first} to {last}:")
-}
+impl fmt::Display for Head {
+    ghost output = { λ h. Some (head_text h.cells h.bytes h.top) };
 
-/// Appends the line of a run of cells that are all 0.
-fn write_zeros(text: &mut String, first: u64, end: u64) -> Result<(), AllocError>
-    requires { first < end }
-    ensures { OnOk result (string_bytes text.new ≡ string_bytes text.old ++ zeros_text first end) }
-{
-    write_span(text, first, end)?;
-    writeln!(text, " all 0")
-}
-
-/// Appends the line of a run of cells that are all 0, unless it is empty.
-fn write_run(text: &mut String, first: u64, end: u64) -> Result<(), AllocError>
-    requires { first ≤ end }
-    ensures { OnOk result (string_bytes text.new ≡ string_bytes text.old ++ unless_none (end - first) (zeros_text first end)) }
-{
-    if first == end {
-        return Ok(());
+    fn fmt<W: fmt::Write>(&self, f: &mut fmt::Formatter<W>) -> fmt::Result {
+        let Head { cells, bytes, top } = *self;
+        let s = Plural(cells);
+        writeln!(f, "{cells} cell{s} of {bytes} bytes, top word {top}")
     }
-    write_zeros(text, first, end)
+}
+
+/// The line of the bytes that are in no cell, or nothing where there are none.
+#[derive(Clone, Copy)]
+struct Left(u64);
+
+impl fmt::Display for Left {
+    ghost output = { λ l. Some (unless_none l.0 (left_text l.0)) };
+
+    fn fmt<W: fmt::Write>(&self, f: &mut fmt::Formatter<W>) -> fmt::Result {
+        let count = self.0;
+        if count == 0 {
+            return Ok(());
+        }
+        let s = Plural(count);
+        writeln!(f, "{count} byte{s} left over")
+    }
+}
+
+/// The cells from `first` on, before `end`: how their line begins.
+#[derive(Clone, Copy)]
+struct Span {
+    first: u64,
+    end: u64,
+    ghost some: { first < end },
+}
+
+impl Span {
+    /// The cells of row `n` of so many cells.
+    fn of_row(n: u64, length: u64) -> Span
+        requires { 32 * n < length }
+        ensures first { result.first ≡ 32 * n }
+        ensures end { result.end ≡ min (32 * (n + 1)) length }
+    {
+        let first = ROW * n;
+        let end = first + ROW.min(length - first);
+        Span { first, end }
+    }
+}
+
+impl fmt::Display for Span {
+    ghost output = { λ s. Some (span_text s.first s.end) };
+
+    fn fmt<W: fmt::Write>(&self, f: &mut fmt::Formatter<W>) -> fmt::Result {
+        let first = self.first;
+        let last = self.end - 1;
+        write!(f, "cells {first} to {last}:")
+    }
+}
+
+/// The line of the cells from `first` on, before `end`, that are all 0, or nothing where there are none.
+#[derive(Clone, Copy)]
+struct Zeros {
+    first: u64,
+    end: u64,
+    ghost ordered: { first ≤ end },
+}
+
+impl fmt::Display for Zeros {
+    ghost output = { λ z. Some (unless_none (z.end - z.first) (zeros_text z.first z.end)) };
+
+    fn fmt<W: fmt::Write>(&self, f: &mut fmt::Formatter<W>) -> fmt::Result {
+        let Zeros { first, end } = *self;
+        if first == end {
+            return Ok(());
+        }
+        let span = Span { first, end };
+        writeln!(f, "{span} all 0")
+    }
 }
 
 /// The word of a cell of the row.
@@ -101,95 +137,79 @@ pub(crate) fn word<M: Memory>(memory: &M, cell: u64) -> u64
     memory.read(cell).unwrap()
 }
 
-/// Whether the cells from `first` on, before `end`, all hold 0.
-fn all_zero<M: Memory>(memory: &M, first: u64, end: u64) -> bool
-    requires { end ≤ length (M.cells memory.now) }
-    ensures { result ≡ all_zero (between first end (M.cells memory.now)) }
-{
-    for cell in first..end {
-        if word(memory, cell) != 0 {
-            return false;
+/// The line of a row, the cells of a span.
+#[derive(Drop)]
+struct Row<'a, M: Memory> {
+    memory: &'a M,
+    span: Span,
+    ghost inside: { span.end ≤ length (M.cells memory.now) },
+}
+
+impl<M: Memory> Row<'_, M> {
+    /// Whether its cells all hold 0.
+    fn all_zero(&self) -> bool
+        ensures { result ≡ all_zero (between self.now.span.first self.now.span.end (M.cells self.now.memory.now)) }
+    {
+        let mut cells = self.span.first..self.span.end;
+        cells.all(|cell| word(self.memory, cell) == 0)
+    }
+}
+
+impl<M: Memory> fmt::Display for Row<'_, M> {
+    ghost output = { λ r. Some (row_text r.span.first (between r.span.first r.span.end (M.cells r.memory.now))) };
+
+    fn fmt<W: fmt::Write>(&self, f: &mut fmt::Formatter<W>) -> fmt::Result {
+        let span = self.span;
+        write!(f, "{span}")?;
+        for cell in span.first..span.end {
+            let word = word(self.memory, cell);
+            write!(f, " {word}")?;
         }
+        writeln!(f)
     }
-    true
 }
 
-/// Appends the line of a row, the cells from `first` on, before `end`.
-fn write_row<M: Memory>(
-    text: &mut String,
-    memory: &M,
-    first: u64,
-    end: u64,
-) -> Result<(), AllocError>
-    requires { (first < end) × (end ≤ length (M.cells memory.now)) }
-    ensures { OnOk result (string_bytes text.new ≡ string_bytes text.old ++ row_text first (between first end (M.cells memory.now))) }
-{
-    write_span(text, first, end)?;
-    for cell in first..end {
-        let word = word(memory, cell);
-        write!(text, " {word}")?;
-    }
-    writeln!(text)
-}
+/// The lines of a memory's cells, a run of rows that are all 0 as one line.
+#[derive(Drop)]
+struct Rows<'a, M: Memory>(&'a M);
 
-/// Where the row that begins at `first` ends.
-fn row_end(first: u64, length: u64) -> u64
-    requires { first ≤ length }
-    ensures { result ≡ first + min 32 (length - first) }
-{
-    first + ROW.min(length - first)
-}
+impl<M: Memory> fmt::Display for Rows<'_, M> {
+    ghost output = { λ r. Some (lines_text (lines_of (M.cells r.0.now))) };
 
-/// Appends the lines of a memory's cells, a run of rows that are all 0 as one line.
-fn write_cells<M: Memory>(text: &mut String, memory: &M) -> Result<(), AllocError>
-    ensures { OnOk result (string_bytes text.new ≡ string_bytes text.old ++ lines_text (lines_of (M.cells memory.now))) }
-{
-    let length = memory.length();
-    let mut zeros = 0;
-    let mut first = 0;
-    while first < length {
-        let end = row_end(first, length);
-        if !all_zero(memory, first, end) {
-            write_run(text, zeros, first)?;
-            write_row(text, memory, first, end)?;
-            zeros = end;
+    fn fmt<W: fmt::Write>(&self, f: &mut fmt::Formatter<W>) -> fmt::Result {
+        let memory = self.0;
+        let length = memory.length();
+        let mut first = 0;
+        for n in 0..length.div_ceil(ROW) {
+            let span = Span::of_row(n, length);
+            let row = Row { memory, span };
+            if !row.all_zero() {
+                let zeros = Zeros {
+                    first,
+                    end: span.first,
+                };
+                write!(f, "{zeros}{row}")?;
+                first = span.end;
+            }
         }
-        first = end;
+        let zeros = Zeros { first, end: length };
+        write!(f, "{zeros}")
     }
-    write_run(text, zeros, first)
-}
-
-/// Appends the text of an image.
-fn write_image(text: &mut String, bytes: &mut [u8], width: Width) -> Result<(), AllocError>
-    ensures text { OnOk result (string_bytes text.new ≡ string_bytes text.old ++ image_text width bytes.old) }
-    ensures same { bytes.new ≡ bytes.old }
-{
-    let size = bytes.len() as u64;
-    let each = width.bytes();
-    let memory = ByteMemory::new(bytes, width);
-    let cells = memory.length();
-    write_head(text, cells, each, memory.top_word())?;
-    write_cells(text, &memory)?;
-    write_rest(text, size - cells * each)
-}
-
-/// A string of the text of an image, which only a want of memory refuses.
-fn text_of(heap: Global, bytes: &mut [u8], width: Width) -> Result<String, AllocError>
-    ensures text { IfOk result (λ s. string_bytes s ≡ image_text width bytes.old) }
-    ensures same { bytes.new ≡ bytes.old }
-{
-    let mut text = String::new(heap);
-    write_image(&mut text, bytes, width)?;
-    Ok(text)
 }
 
 /// The text of an image: how many cells it has, their words by rows, and how many bytes are in no cell.
+#[tactic(auto, using(crate::proofs::Standing::lines_stand))]
 pub fn image_text(heap: Global, bytes: &mut [u8], width: Width) -> Result<String, AllocError>
     ensures text { IfOk result (λ s. string_bytes s ≡ image_text width bytes.old) }
     ensures lines { StandFor 0 (lines_of (cells_of width bytes.old)) (cells_of width bytes.old) }
     ensures same { bytes.new ≡ bytes.old }
 {
-    text_of(heap, bytes, width)
+    let size = bytes.len() as u64;
+    let memory = ByteMemory::new(bytes, width);
+    let head = Head::of(&memory, width);
+    let rows = Rows(&memory);
+    let left = Left(size - head.cells * head.bytes);
+    format!(in heap; "{head}{rows}{left}")
 }
 
 #[cfg(test)]

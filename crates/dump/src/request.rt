@@ -17,7 +17,7 @@ pub struct Request {
 }
 
 /// Why a command line is refused.
-#[derive(Clone, Copy, Debug)]
+#[derive(Clone, Copy, Debug, PartialEq, Eq)]
 pub enum Usage {
     /// There is no argument.
     NoWidth,
@@ -29,33 +29,24 @@ pub enum Usage {
     TooMany,
 }
 
-impl Usage {
-    /// What is wrong, and what is expected.
-    fn message(self) -> &'static str
-        ensures { result.now ≡ usage_text self }
-    {
-        match self {
+impl fmt::Display for Usage {
+    ghost output = { λ u. Some (usage_text u) };
+
+    fn fmt<W: fmt::Write>(&self, f: &mut fmt::Formatter<W>) -> fmt::Result {
+        f.write_str(match self {
             Usage::NoWidth => "the cell width is missing: 2, 4 or 8",
             Usage::StrangeWidth => "the cell width must be 2, 4 or 8",
             Usage::StrangeCount => "the node count must be a decimal number below 2^64",
             Usage::TooMany => {
                 "two arguments are expected at most: the cell width and the node count"
             }
-        }
-    }
-}
-
-impl fmt::Display for Usage {
-    ghost output = { λ u. Some (usage_text u) };
-
-    fn fmt<W: fmt::Write>(&self, f: &mut fmt::Formatter<W>) -> fmt::Result {
-        f.write_str(self.message())
+        })
     }
 }
 
 impl Error for Usage {}
 
-/// The cell width that a text names.
+/// The cell width that a text names. `Width` is of another crate, so its `FromStr` cannot stand here.
 pub fn width_from(text: &str) -> Result<Width, Usage>
     ensures { result ≡ width_named text.now }
 {
@@ -71,22 +62,17 @@ pub fn width_from(text: &str) -> Result<Width, Usage>
 pub fn count_from(text: &str) -> Result<u64, Usage>
     ensures { NamesCount text.now result }
 {
-    match text.parse::<u64>() {
-        Ok(count) => Ok(count),
-        Err(_) => Err(Usage::StrangeCount),
-    }
+    text.parse::<u64>().map_err(|_| Usage::StrangeCount)
 }
 
 /// A width and a node count as a request.
 fn nodes_from(width: &str, count: &str) -> Result<Request, Usage>
     ensures { AsksNodes width.now count.now result }
 {
-    let nodes = count_from(count);
-    let width = width_from(width)?;
-    let count = nodes?;
+    let count = count_from(count);
     Ok(Request {
-        width,
-        nodes: Some(count),
+        width: width_from(width)?,
+        nodes: Some(count?),
     })
 }
 

@@ -51,7 +51,7 @@ impl<'a> Node<'a> {
     }
 
     /// The words of the entries, two by two.
-    pub(crate) fn pairs(&self) -> &'a [[u64; 2]]
+    pub fn pairs(&self) -> &'a [[u64; 2]]
         ensures { map pair result.now ≡ entries self.now.words.now }
     {
         let words = self.words;

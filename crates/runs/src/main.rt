@@ -6,12 +6,12 @@
 
 mod request;
 
-use anyhow::anyhow;
+use anyhow::Context;
 use index::Index;
 use memory::{Memory, WordMemory};
 use order::{NumberOrder, Order};
 use request::{Kind, Request};
-use rules::Report;
+use rules::{Report, Told};
 use std::env;
 
 /// The most entries of a node.
@@ -26,16 +26,36 @@ const VALUE: u64 = 7;
 /// More steps than any operation of one seat takes.
 const ALL: u16 = 10_000;
 
-/// Makes steps of the seat, so many at most, until its operation ends: how many, and how it ended if it did.
-fn drive<M: Memory, O: Order>(index: &mut Index<M, O>, steps: u16) -> (u16, Option<Report>) {
+/// How many steps were made, and how the last operation ended if it did.
+#[derive(Clone, Copy, Default)]
+struct Made {
+    steps: u64,
+    end: Option<Report>,
+}
+
+impl Made {
+    fn new(steps: u16, end: Option<Report>) -> Made {
+        let steps = u64::from(steps);
+        Made { steps, end }
+    }
+
+    /// These steps and more after them, if they can be counted.
+    fn then(self, more: Made) -> Option<Made> {
+        let steps = self.steps.checked_add(more.steps)?;
+        Some(Made { steps, ..more })
+    }
+}
+
+/// Makes steps of the seat, so many at most, until its operation ends.
+fn drive<M: Memory, O: Order>(index: &mut Index<M, O>, steps: u16) -> Made {
     for made in 0..steps {
         match index.step(SEAT) {
-            Ok(report) if matches!(report.number(), 6..=14) => return (made + 1, Some(report)),
+            Ok(report) if report.ends() => return Made::new(made + 1, Some(report)),
             Ok(_) => {}
-            Err(_) => return (made, None),
+            Err(_) => return Made::new(made, None),
         }
     }
-    (steps, None)
+    Made::new(steps, None)
 }
 
 /// The key of an operation: the present ones in turn, by a stride that meets them all.
@@ -43,13 +63,8 @@ fn key_of(turn: u16, keys: u16) -> u64 {
     10 * (1 + u64::from(turn) * 7919 % u64::from(keys.max(1)))
 }
 
-/// Begins an operation, and makes so many steps of it at most: how many were made, and how it ended if it did.
-fn work<M: Memory, O: Order>(
-    index: &mut Index<M, O>,
-    kind: Kind,
-    key: u64,
-    steps: u16,
-) -> (u16, Option<Report>) {
+/// Begins an operation, and makes so many steps of it at most.
+fn work<M: Memory, O: Order>(index: &mut Index<M, O>, kind: Kind, key: u64, steps: u16) -> Made {
     let begun = match kind {
         Kind::Find => index.begin_find(SEAT, key),
         Kind::Put => index.begin_put(SEAT, key, VALUE),
@@ -57,29 +72,24 @@ fn work<M: Memory, O: Order>(
     };
     match begun {
         Ok(_) => drive(index, steps),
-        Err(_) => (0, None),
+        Err(_) => Made::default(),
     }
 }
 
-/// Fills the index and works the seat as asked: how many steps were made in all, and how the last operation ended if
-/// it did.
-fn measured<M: Memory, O: Order>(
-    index: &mut Index<M, O>,
-    request: &Request,
-) -> Option<(u64, Option<Report>)> {
-    let mut steps = 0u64;
-    let mut last = None;
-    for i in 0..request.keys {
-        let (made, _) = work(index, Kind::Put, 10 * (1 + u64::from(i)), ALL);
-        steps = steps.checked_add(u64::from(made))?;
-    }
-    for turn in 0..request.times {
+/// Fills the index and works the seat as asked, all steps counted, and the end of the last operation asked for.
+fn measured<M: Memory, O: Order>(index: &mut Index<M, O>, request: &Request) -> Option<Made> {
+    let filled = (0..request.keys).try_fold(Made::default(), |done, i| {
+        let key = 10 * (1 + u64::from(i));
+        done.then(work(index, Kind::Put, key, ALL))
+    })?;
+    let begun = Made {
+        end: None,
+        ..filled
+    };
+    (0..request.times).try_fold(begun, |done, turn| {
         let key = key_of(turn, request.keys);
-        let (made, report) = work(index, request.kind, key, request.steps);
-        steps = steps.checked_add(u64::from(made))?;
-        last = report;
-    }
-    Some((steps, last))
+        done.then(work(index, request.kind, key, request.steps))
+    })
 }
 
 fn run(rt: &HostRuntime) -> anyhow::Result<()> {
@@ -89,13 +99,9 @@ fn run(rt: &HostRuntime) -> anyhow::Result<()> {
     let mut words = vec![in heap; 0u64; usize::from(request.cells)]?;
     let mut index = Index::new(WordMemory::new(words.as_mut_slice()), NumberOrder);
     let _ = index.format(FAN);
-    let Some((steps, last)) = measured(&mut index, &request) else {
-        return Err(anyhow!("more steps than can be counted"));
-    };
-    let (number, word) = match last {
-        Some(report) => (report.number(), report.word()),
-        None => (0, 0),
-    };
+    let made = measured(&mut index, &request).context("more steps than can be counted")?;
+    let steps = made.steps;
+    let Told { number, word, .. } = made.end.map(Told::from).unwrap_or_default();
     println!(rt; "{steps} steps, report {number} {word}")?;
     Ok(())
 }

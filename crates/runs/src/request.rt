@@ -2,6 +2,8 @@
 
 use std::error::Error;
 use std::fmt;
+use std::num::ParseIntError;
+use std::str::FromStr;
 
 /// What the seat does over and over.
 #[derive(Clone, Copy)]
@@ -29,7 +31,7 @@ pub(crate) struct Request {
 }
 
 /// Why a command line is refused.
-#[derive(Clone, Copy, Debug)]
+#[derive(Clone, Copy, Debug, PartialEq, Eq)]
 pub(crate) struct Usage;
 
 impl fmt::Display for Usage {
@@ -40,22 +42,22 @@ impl fmt::Display for Usage {
 
 impl Error for Usage {}
 
-impl Kind {
-    fn named(text: &str) -> Result<Kind, Usage> {
+impl From<ParseIntError> for Usage {
+    fn from(_: ParseIntError) -> Usage {
+        Usage
+    }
+}
+
+impl FromStr for Kind {
+    type Err = Usage;
+
+    fn from_str(text: &str) -> Result<Kind, Usage> {
         match text {
             "find" => Ok(Kind::Find),
             "put" => Ok(Kind::Put),
             "new" => Ok(Kind::New),
             _ => Err(Usage),
         }
-    }
-}
-
-/// A number below 65,536.
-fn number(text: &str) -> Result<u16, Usage> {
-    match text.parse::<u16>() {
-        Ok(number) => Ok(number),
-        Err(_) => Err(Usage),
     }
 }
 
@@ -66,11 +68,11 @@ impl Request {
             return Err(Usage);
         };
         Ok(Request {
-            cells: number(cells.as_str())?,
-            keys: number(keys.as_str())?,
-            kind: Kind::named(kind.as_str())?,
-            times: number(times.as_str())?,
-            steps: number(steps.as_str())?,
+            cells: cells.as_str().parse()?,
+            keys: keys.as_str().parse()?,
+            kind: kind.as_str().parse()?,
+            times: times.as_str().parse()?,
+            steps: steps.as_str().parse()?,
         })
     }
 }

@@ -5,52 +5,122 @@
 use index::Index;
 use memory::{Memory, WordMemory};
 use order::{NumberOrder, Order};
-use rules::{Refusal, Report};
-use std::io;
+use rules::{Outcome, Refusal, Report};
+use std::{fmt, io};
+
+/// The word for a report.
+#[derive(Clone, Copy)]
+struct Said(Report);
+
+impl fmt::Display for Said {
+    fn fmt<W: fmt::Write>(&self, f: &mut fmt::Formatter<W>) -> fmt::Result {
+        f.write_str(match self.0 {
+            Report::GoneOn(_) => "gone on",
+            Report::TurnedBack(_) => "turned back",
+            Report::Latched(_) => "latched",
+            Report::Published(_) => "published",
+            Report::Posted(_) => "posted",
+            Report::Unchanged(_) => "unchanged",
+            Report::Found { .. } => "found",
+            Report::Absent(_) => "absent",
+            Report::Ended { outcome, .. } => match outcome {
+                Outcome::Stored => "stored",
+                Outcome::Replaced(_) => "replaced",
+                Outcome::Untold => "stored untold",
+                Outcome::Full => "full",
+                Outcome::Worn => "worn",
+            },
+            Report::Abandoned { published: false } => "abandoned unpublished",
+            Report::Abandoned { published: true } => "abandoned published",
+        })
+    }
+}
+
+/// Steps in a row that all reported the same.
+#[derive(Clone, Copy)]
+struct Run {
+    first: u64,
+    last: u64,
+    report: Report,
+}
 
 /// A task: its name, its seat, and how many steps it has made.
 #[derive(Drop)]
 struct Task {
     name: &'static str,
     seat: u64,
-    steps: u64,
+    made: u64,
 }
 
-/// The word for a report.
-fn said(report: Report) -> &'static str {
-    match report.number() {
-        0 => "gone on",
-        1 => "turned back",
-        2 => "latched",
-        3 => "published",
-        4 => "posted",
-        5 => "unchanged",
-        6 => "found",
-        7 => "absent",
-        8 => "stored",
-        9 => "replaced",
-        10 => "stored untold",
-        11 => "full",
-        12 => "worn",
-        13 => "abandoned unpublished",
-        _ => "abandoned published",
+impl Task {
+    fn new(name: &'static str, seat: u64) -> Task {
+        Task {
+            name,
+            seat,
+            made: 0,
+        }
     }
-}
 
-/// Prints the steps of a task from `first` to its last, which all reported the same.
-fn tell(rt: &HostRuntime, task: &Task, first: u64, report: Report) -> io::Result<()> {
-    let name = task.name;
-    let last = task.steps;
-    let what = said(report);
-    let node = report.node();
-    if first == last {
-        print!(rt; "  {name} {last:>9}: {what}, node {node}")?;
-    } else {
-        print!(rt; "  {name} {first:>2} to {last:>3}: {what}, node {node}")?;
+    /// Prints a run of its steps.
+    fn tell(&self, rt: &HostRuntime, run: Run) -> io::Result<()> {
+        let name = self.name;
+        let Run {
+            first,
+            last,
+            report,
+        } = run;
+        let said = Said(report);
+        let node = report.node();
+        if first == last {
+            print!(rt; "  {name} {last:>9}: {said}, node {node}")?;
+        } else {
+            print!(rt; "  {name} {first:>2} to {last:>3}: {said}, node {node}")?;
+        }
+        match report {
+            Report::Found { value, .. }
+            | Report::Ended {
+                outcome: Outcome::Replaced(value),
+                ..
+            } => println!(rt; ", value {value}"),
+            _ => println!(rt),
+        }
     }
-    match report.word() {
-        0 => println!(rt),
-        word => println!(rt; ", value {word}"),
+
+    /// Makes steps until it has made `most` in all, its operation ends or a step is refused, and prints them.
+    fn walk<M: Memory, O: Order>(
+        &mut self,
+        rt: &HostRuntime,
+        index: &mut Index<M, O>,
+        most: u64,
+    ) -> io::Result<()> {
+        let mut run: Option<Run> = None;
+        for made in self.made..most {
+            let Ok(report) = index.step(self.seat) else {
+                break;
+            };
+            let step = made + 1;
+            let first = match run {
+                Some(run) if run.report == report => run.first,
+                Some(run) => {
+                    self.tell(rt, run)?;
+                    step
+                }
+                None => step,
+            };
+            run = Some(Run {
+                first,
+                last: step,
+                report,
+            });
+            self.made = step;
+            if report.ends() {
+                break;
+            }
+        }
+        match run {
+            Some(run) => self.tell(rt, run),
+            None => Ok(()),
+        }
     }
 }
 
@@ -58,7 +128,7 @@ fn tell(rt: &HostRuntime, task: &Task, first: u64, report: Report) -> io::Result
 fn tell_call(rt: &HostRuntime, what: &str, answer: Result<Report, Refusal>) -> io::Result<()> {
     match answer {
         Ok(report) => {
-            let said = said(report);
+            let said = Said(report);
             println!(rt; "{what}: {said}")
         }
         Err(refusal) => {
@@ -68,62 +138,23 @@ fn tell_call(rt: &HostRuntime, what: &str, answer: Result<Report, Refusal>) -> i
     }
 }
 
-/// Makes steps of a task, at most `most`, until its operation ends or a step is refused, and prints them.
-fn walk<M: Memory, O: Order>(
-    rt: &HostRuntime,
-    index: &mut Index<M, O>,
-    task: &mut Task,
-    most: u64,
-) -> io::Result<()> {
-    let mut first = task.steps.saturating_add(1);
-    let mut held: Option<Report> = None;
-    for _ in 0..most {
-        let Ok(report) = index.step(task.seat) else {
-            break;
-        };
-        if let Some(before) = held {
-            if before.number() != report.number() || before.node() != report.node() {
-                tell(rt, task, first, before)?;
-                first = task.steps.saturating_add(1);
-            }
-        }
-        task.steps = task.steps.saturating_add(1);
-        held = Some(report);
-        if matches!(report.number(), 6..=14) {
-            break;
-        }
-    }
-    match held {
-        Some(report) => tell(rt, task, first, report),
-        None => Ok(()),
-    }
-}
-
 fn main(rt: HostRuntime) -> io::Result<()> {
     let mut words = [0u64; 64];
     let mut index = Index::new(WordMemory::new(&mut words), NumberOrder);
     tell_call(&rt, "format with fan 3", index.format(3))?;
-    let mut camera = Task {
-        name: "camera",
-        seat: 0,
-        steps: 0,
-    };
-    let mut stop = Task {
-        name: "  stop",
-        seat: 1,
-        steps: 0,
-    };
+    let mut camera = Task::new("camera", 0);
+    let mut stop = Task::new("  stop", 1);
     tell_call(
         &rt,
         "camera begins to put parcel 7 for stop 3",
         index.begin_put(0, 7, 3),
     )?;
-    walk(&rt, &mut index, &mut camera, 45)?;
+    camera.walk(&rt, &mut index, 45)?;
     println!(rt; "the control cycle cuts the camera in the middle of its fill")?;
     tell_call(&rt, "stop begins to find parcel 7", index.begin_find(1, 7))?;
-    walk(&rt, &mut index, &mut stop, 33)?;
+    stop.walk(&rt, &mut index, 33)?;
     println!(rt; "the control cycle goes back to the camera")?;
-    walk(&rt, &mut index, &mut camera, 100)?;
+    camera.walk(&rt, &mut index, 145)?;
     println!(rt; "and to the stop")?;
-    walk(&rt, &mut index, &mut stop, 100)
+    stop.walk(&rt, &mut index, 133)
 }

@@ -1,18 +1,10 @@
-use Rattle.std.proofs.Common.{◌≡◌, ◌++◌, get_or, take, drop, set, replicate, sym, refl, ap, ◌∙◌, add-one, arith}
-use Rattle.dump.specs.Nodes.{node_words}
-use Rattle.dump.proofs.Listing.{taken_more, node_length, node_word, all_taken}
+use Rattle.std.proofs.Common.{◌+◌, ◌*◌, ◌∙◌, get_or, sym, arith, rules, tests, refl}
+use Rattle.std.proofs.lemmas.List.{ext_get_or}
+use Rattle.dump.proofs.Listing.{node_length, node_word, made_by}
 use Rattle.dump.proofs.nodes.words_of.Goals as goal
-
-pub loop-i-preserved : goal.loop-i-preserved
-loop-i-preserved g c =
-    let cells = g.M.Memory.cells c.args.memory.now in
-    let n = c.args.node in
-    let i = c.loop-i.i in
-    let w : c.word.result ≡ get_or (node_words n cells) i 0 = c.word.ensures ∙ sym (node_word cells n c.requires i (omega arith)) in
-    let nw = node_words n cells in
-    rw add-one (ap (λ r. set r i c.word.result) c.loop-i.invariant ∙ ap (λ x. set (take i nw ++ drop i (replicate 32 0)) i x) w ∙ taken_more nw (replicate 32 0) i (omega (arith, node_length cells n c.requires)) (omega arith))
 
 pub returns : goal.returns
 returns g c =
     let cells = g.M.Memory.cells c.args.memory.now in
-    c.loop-i.invariant ∙ all_taken cells c.args.node c.requires (replicate 32 0) c.loop-i.i (omega arith) refl
+    ext_get_or 0 c.from_fn.result _ (c.from_fn.ensures.items.long ∙ sym (node_length cells c.args.node c.requires))
+    (λ k below. made_by _ _ (λ i. get_or cells (32 * c.args.node + i) 0) (λ i y q h. search (rules, tests)) 32 0 _ _ refl c.from_fn.ensures.items.each k k 0 (omega (arith, c.from_fn.ensures.items.long)) (omega arith) ∙ sym (node_word cells c.args.node c.requires k (omega (arith, c.from_fn.ensures.items.long))))
