@@ -1,5 +1,5 @@
 -- A refused call leaves the state as it was.
-use Rattle.std.proofs.Common.{◌≡◌, ℕ, Bool, true, false, cond, ◌||◌, eqb, ltb, length, IfErr, Ok, Err, Result, refl}
+use Rattle.std.proofs.Common.{◌≡◌, ℕ, Bool, true, false, cond, ◌||◌, eqb, ltb, length, IfErr, Option, Ok, Err, Result, refl}
 use Rattle.memory.specs.declared.fault.Fault.{Fault}
 use Rattle.rules.specs.Calls.{is_idle, value_of, begin, due, answered_by, step_by, abandoned}
 use Rattle.rules.specs.Cells.{answers}
@@ -25,11 +25,11 @@ either true p q = p
 either false p q = q
 
 module _ (st : State) where
-  answered_kept : (i : ℕ) (a : Access) (r : Result ℕ Fault) → Kept st (answered_by st i a r)
+  answered_kept : (i : ℕ) (a : Option Access) (r : Result ℕ Fault) → Kept st (answered_by st i a r)
   answered_kept i a (Err f) = refuses _
   answered_kept i a (Ok w) = reports _ _
 
-  step_kept : (i : ℕ) (r : Result Access Refusal) → Kept st (step_by st i r)
+  step_kept : (i : ℕ) (r : Result (Option Access) Refusal) → Kept st (step_by st i r)
   step_kept i (Err f) = refuses f
   step_kept i (Ok a) = answered_kept i a (answers st.cells st.top a)
 

@@ -1,5 +1,5 @@
 -- An access that no memory can make is refused.
-use Rattle.std.proofs.Common.{◌≡◌, ℕ, ◌≤◌, Bool, true, false, cond, eqb, ltb, List, length, Ok, Err, Result, sym, refl, ap, ◌∙◌, arith}
+use Rattle.std.proofs.Common.{◌≡◌, ℕ, ◌≤◌, Bool, true, false, cond, eqb, ltb, List, length, Some, None, Option, Ok, Err, Result, sym, refl, ap, ◌∙◌, arith}
 use Rattle.std.proofs.lemmas.Bool.{le-ltb}
 use Rattle.memory.specs.declared.fault.Fault.{Fault}
 use Rattle.memory.specs.declared.fault.Fault.TheVariants.{NoCell}
@@ -8,7 +8,7 @@ use Rattle.rules.specs.Cells.{answers}
 use Rattle.rules.specs.State.{State, seat_at, extent_of}
 use Rattle.rules.specs.Steps.{access_of}
 use Rattle.rules.specs.declared.access.Access.{Access}
-use Rattle.rules.specs.declared.access.Access.TheVariants.{None, Read, Write, Swap}
+use Rattle.rules.specs.declared.access.Access.TheVariants.{Read, Write, Swap}
 use Rattle.rules.specs.declared.refusal.Refusal.TheVariants as refusal
 use Rattle.rules.specs.declared.seat.Phase.{Phase}
 use Rattle.rules.specs.declared.seat.Phase.TheVariants as phase
@@ -19,13 +19,13 @@ module _ (cs : List ℕ) (top : ℕ) (short : length cs ≤ 65536) where
   past : {A : Type 0} (c : ℕ) (x : Result A Fault) → 65536 ≤ c → cond (ltb c (length cs)) x (Err NoCell) ≡ Err NoCell
   past c x h = rw (le-ltb c (length cs) (omega arith))
 
-  beyond_refused : (a : Access) → Beyond a → answers cs top a ≡ Err NoCell
+  beyond_refused : (a : Option Access) → Beyond a → answers cs top a ≡ Err NoCell
   beyond_refused None h = absurd h
-  beyond_refused (Read c) h = past c _ h
-  beyond_refused (Write c w) h = past c _ h
-  beyond_refused (Swap c old w) h = past c _ h
+  beyond_refused (Some (Read c)) h = past c _ h
+  beyond_refused (Some (Write c w)) h = past c _ h
+  beyond_refused (Some (Swap c old w)) h = past c _ h
 
-due_in_busy : (p : Phase) (a : Access) → (p ≡ phase.Idle → ⊥) → due_in p a ≡ Ok a
+due_in_busy : (p : Phase) (a : Option Access) → (p ≡ phase.Idle → ⊥) → due_in p a ≡ Ok a
 due_in_busy phase.Idle a h = absurd (h refl)
 due_in_busy phase.Look a h = refl
 due_in_busy (phase.Copy i) a h = refl

@@ -1,12 +1,12 @@
 -- A step, from its access and from how the seat goes on.
-use Rattle.std.proofs.Common.{◌≡◌, ℕ, ◌/◌, Bool, true, false, cond, eqb, ltb, List, length, get_or, set, Ok, sym, refl, ap, ◌∙◌, length-set}
+use Rattle.std.proofs.Common.{◌≡◌, ℕ, ◌/◌, Bool, true, false, cond, eqb, ltb, List, length, get_or, set, Some, None, Option, Ok, sym, refl, ap, ◌∙◌, length-set}
 use Rattle.memory.specs.Row.{written}
 use Rattle.rules.specs.Calls.{due, step, step_by, answered_by, moved}
 use Rattle.rules.specs.Cells.{answers, leaves}
 use Rattle.rules.specs.State.{State, seat_at, extent_of}
 use Rattle.rules.specs.Steps.{advance}
 use Rattle.rules.specs.declared.access.Access.{Access}
-use Rattle.rules.specs.declared.access.Access.TheVariants.{None, Read, Write, Swap}
+use Rattle.rules.specs.declared.access.Access.TheVariants.{Read, Write, Swap}
 use Rattle.rules.specs.declared.report.Report.{Report}
 use Rattle.rules.specs.declared.seat.Seat.{Seat}
 
@@ -19,13 +19,13 @@ module _ (cs : List ℕ) (top : ℕ) where
   length_written c w = length_cond (ltb top w) cs (set cs c w) (length cs) refl (simp length-set)
 
   -- an access leaves as many cells
-  length_leaves : (a : Access) → length (leaves cs top a) ≡ length cs
+  length_leaves : (a : Option Access) → length (leaves cs top a) ≡ length cs
   length_leaves None = refl
-  length_leaves (Read c) = refl
-  length_leaves (Write c w) = length_written c w
-  length_leaves (Swap c old w) = length_cond (eqb (get_or cs c 0) old) (written cs top c w) cs (length cs) (length_written c w) refl
+  length_leaves (Some (Read c)) = refl
+  length_leaves (Some (Write c w)) = length_written c w
+  length_leaves (Some (Swap c old w)) = length_cond (eqb (get_or cs c 0) old) (written cs top c w) cs (length cs) (length_written c w) refl
 
-module _ (st : State) (i : ℕ) (a : Access) (w : ℕ) (cells : List ℕ) (top count : ℕ) (s : Seat) (r : Report) where
+module _ (st : State) (i : ℕ) (a : Option Access) (w : ℕ) (cells : List ℕ) (top count : ℕ) (s : Seat) (r : Report) where
   pub stepped : due st i ≡ Ok a → Ok w ≡ answers st.cells st.top a → cells ≡ leaves st.cells st.top a → top ≡ st.top
       → (s, count, r) ≡ advance st.before (record { fan = st.fan; top = top; nodes = length cells / 32 }) (seat_at st.seats i) st.count w
       → (Ok r, record { cells = cells; top = top; iskey = st.iskey; before = st.before; fan = st.fan; count = count; seats = set st.seats i s })

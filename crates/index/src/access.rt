@@ -43,46 +43,48 @@ pub fn freeing(seat: &Seat, top: u64) -> Option<u64>
     }
 }
 
-/// The access that a seat's next step makes.
-pub fn access(seat: &Seat, extent: Extent) -> Result<Access, Fault>
+/// The access that a seat's next step makes, if it makes one.
+pub fn access(seat: &Seat, extent: Extent) -> Result<Option<Access>, Fault>
     ensures { MatchResult result (λ a. a ≡ access_of extent seat.now) (λ f. (f ≡ NoCell) × Beyond (access_of extent seat.now)) }
 {
-    match seat.phase {
-        Phase::Look | Phase::Check => Ok(Access::Read(cell(seat.node, 0)?)),
-        Phase::Copy { next } => Ok(Access::Read(cell(seat.node, next)?)),
+    Ok(Some(match seat.phase {
+        Phase::Look | Phase::Check => Access::Read(cell(seat.node, 0)?),
+        Phase::Copy { next } => Access::Read(cell(seat.node, next)?),
         Phase::Latch => match freeing(seat, extent.top) {
-            Some(freeing) => Ok(Access::Swap {
+            Some(freeing) => Access::Swap {
                 cell: cell(seat.node, 0)?,
                 expected: seat.copy[0],
                 word: freeing - 1,
-            }),
-            None => Ok(Access::None),
+            },
+            None => return Ok(None),
         },
         Phase::Fill { part, next } => {
             let (node, word) = fill_word(seat, extent.fan, part, next);
-            Ok(Access::Write {
+            Access::Write {
                 cell: cell(node, next)?,
                 word,
-            })
+            }
         }
-        Phase::Release | Phase::Undo => Ok(Access::Write {
+        Phase::Release | Phase::Undo => Access::Write {
             cell: cell(seat.node, 0)?,
             word: seat.draft.freeing,
-        }),
-        Phase::Idle | Phase::Take | Phase::End(_) => Ok(Access::None),
-    }
+        },
+        Phase::Idle | Phase::Take | Phase::End(_) => return Ok(None),
+    }))
 }
 
 /// Makes one access; none, and a write, answer 0.
-pub fn perform<M: Memory>(memory: &mut M, access: Access) -> Result<u64, Fault>
+pub fn perform<M: Memory>(memory: &mut M, access: Option<Access>) -> Result<u64, Fault>
     ensures answer { result ≡ answers (M.cells memory.old) (M.top memory.old) access }
     ensures after { M.cells memory.new ≡ leaves (M.cells memory.old) (M.top memory.old) access }
     ensures refused { OnErr result (M.cells memory.new ≡ M.cells memory.old) }
     ensures same { M.top memory.new ≡ M.top memory.old }
     ensures outside { M.outside memory.new ≡ M.outside memory.old }
 {
+    let Some(access) = access else {
+        return Ok(0);
+    };
     match access {
-        Access::None => Ok(0),
         Access::Read(cell) => memory.read(cell),
         Access::Write { cell, word } => {
             memory.write(cell, word)?;

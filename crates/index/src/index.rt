@@ -156,8 +156,8 @@ impl<M: Memory, O: Order> Index<M, O> {
         ))
     }
 
-    /// The access of a seat's next step, or why the step is refused.
-    fn due(&self, seat: u64) -> Result<Access, Refusal>
+    /// The access of a seat's next step, if it makes one, or why the step is refused.
+    fn due(&self, seat: u64) -> Result<Option<Access>, Refusal>
         ensures { MatchResult result (λ a. due_rule (view M.Memory O.Order self.now) seat ≡ Ok a) (λ f. step_rule (view M.Memory O.Order self.now) seat ≡ (Err f, view M.Memory O.Order self.now)) }
     {
         let lent = &self.seats[self.place(seat)?];

@@ -1,5 +1,5 @@
 -- A whole call: whatever it answers, the invariant and the laws hold after it.
-use Rattle.std.proofs.Common.{◌≡◌, ℕ, suc, ◌+◌, ◌/◌, ◌%◌, ◌<◌, ◌≤◌, Bool, true, false, cond, ◌||◌, eqb, ltb, ◌≢◌, List, ◌∷◌, length, get_or, set, Some, None, Ok, Err, Result, sym, refl, ◌∙◌, subst, inl, inr, arith}
+use Rattle.std.proofs.Common.{◌≡◌, ℕ, suc, ◌+◌, ◌/◌, ◌%◌, ◌<◌, ◌≤◌, Bool, true, false, cond, ◌||◌, eqb, ltb, ◌≢◌, List, ◌∷◌, length, get_or, set, Some, None, Option, Ok, Err, Result, sym, refl, ◌∙◌, subst, inl, inr, arith}
 use Rattle.std.proofs.lemmas.List.{get_or-set_same, get_or-set_other, length-set}
 use Rattle.std.proofs.lemmas.Bool.{cases_eq, cond_both, cond-true, cond-false, eqb-true, eqb-false, ne_eqb, ltb-true, ltb-false, or_parts, and_left, and_right, true≢false}
 use Rattle.memory.specs.declared.fault.Fault.{Fault}
@@ -153,43 +153,43 @@ module _ (σ : Setting) (iskey : ℕ → Bool) (keyed : (k : ℕ) → iskey k �
     abbrev X : Extent
     X = record { fan = σ.fan; top = σ.top; nodes = length m / 32 }
 
-    moved_kept : (a : Access) (m' : List ℕ) (z : Seat × ℕ × Report) → leaves m σ.top a ≡ m' → Stepped σ (world m c w g) (seat_at ss) h i m' z.0 z.1 z.2
+    moved_kept : (a : Option Access) (m' : List ℕ) (z : Seat × ℕ × Report) → leaves m σ.top a ≡ m' → Stepped σ (world m c w g) (seat_at ss) h i m' z.0 z.1 z.2
         → Kept σ iskey h (Step i) (moved (norm σ iskey m c ss) i a z)
     moved_kept a m' z e t = subst (λ (l : List ℕ). Kept σ iskey h (Step i) (Ok z.2, norm σ iskey l z.1 (set ss i z.0))) (sym e) (stepped_kept m' z t)
 
     -- a step with its access and its advance apart
-    abbrev answered_with : Access → (ℕ → Seat × ℕ × Report) → Result ℕ Fault → Result Report Refusal × State
+    abbrev answered_with : Option Access → (ℕ → Seat × ℕ × Report) → Result ℕ Fault → Result Report Refusal × State
     answered_with a v (Err f) = (Err (of_fault f), norm σ iskey m c ss)
     answered_with a v (Ok y) = moved (norm σ iskey m c ss) i a (v y)
 
-    abbrev step_with : Result Access Refusal → (ℕ → Seat × ℕ × Report) → Result Report Refusal × State
+    abbrev step_with : Result (Option Access) Refusal → (ℕ → Seat × ℕ × Report) → Result Report Refusal × State
     step_with (Err r) v = (Err r, norm σ iskey m c ss)
     step_with (Ok a) v = answered_with a v (answers m σ.top a)
 
-    answered_same : (a : Access) (r : Result ℕ Fault) → answered_with a (advance σ.order.before X x c) r ≡ answered_by (norm σ iskey m c ss) i a r
+    answered_same : (a : Option Access) (r : Result ℕ Fault) → answered_with a (advance σ.order.before X x c) r ≡ answered_by (norm σ iskey m c ss) i a r
     answered_same a (Err f) = refl
     answered_same a (Ok y) = refl
 
-    step_same : (d : Result Access Refusal) → step_with d (advance σ.order.before X x c) ≡ step_by (norm σ iskey m c ss) i d
+    step_same : (d : Result (Option Access) Refusal) → step_with d (advance σ.order.before X x c) ≡ step_by (norm σ iskey m c ss) i d
     step_same (Err r) = refl
     step_same (Ok a) = answered_same a (answers m σ.top a)
 
     reads : (q j : ℕ) (v : ℕ → Seat × ℕ × Report)
         → ((y : ℕ) → y ≡ word m q j → Stepped σ (world m c w g) (seat_at ss) h i m (v y).0 (v y).1 (v y).2)
-        → Kept σ iskey h (Step i) (answered_with (access.Read (cell_of q j)) v (read_at m (cell_of q j)))
+        → Kept σ iskey h (Step i) (answered_with (Some (access.Read (cell_of q j))) v (read_at m (cell_of q j)))
     reads q j v k =
-        cond_both (ltb (cell_of q j) (length m)) _ _ (λ r. Kept σ iskey h (Step i) (answered_with (access.Read (cell_of q j)) v r))
-        (λ _. moved_kept (access.Read (cell_of q j)) m (v (get_or m (cell_of q j) 0)) refl (k (get_or m (cell_of q j) 0) (word_is m q j)))
+        cond_both (ltb (cell_of q j) (length m)) _ _ (λ r. Kept σ iskey h (Step i) (answered_with (Some (access.Read (cell_of q j))) v r))
+        (λ _. moved_kept (Some (access.Read (cell_of q j))) m (v (get_or m (cell_of q j) 0)) refl (k (get_or m (cell_of q j) 0) (word_is m q j)))
         (λ _. refuse (Step i) _)
 
     stores : (q j y : ℕ) (v : ℕ → Seat × ℕ × Report)
         → Stepped σ (world m c w g) (seat_at ss) h i (put m q j y) (v 0).0 (v 0).1 (v 0).2
-        → Kept σ iskey h (Step i) (answered_with (access.Write (cell_of q j) y) v (guarded m σ.top (cell_of q j) y 0))
+        → Kept σ iskey h (Step i) (answered_with (Some (access.Write (cell_of q j) y)) v (guarded m σ.top (cell_of q j) y 0))
     stores q j y v k =
-        cond_both (ltb (cell_of q j) (length m)) _ _ (λ r. Kept σ iskey h (Step i) (answered_with (access.Write (cell_of q j) y) v r))
-        (λ _. cond_both (ltb σ.top y) _ _ (λ r. Kept σ iskey h (Step i) (answered_with (access.Write (cell_of q j) y) v r))
+        cond_both (ltb (cell_of q j) (length m)) _ _ (λ r. Kept σ iskey h (Step i) (answered_with (Some (access.Write (cell_of q j) y)) v r))
+        (λ _. cond_both (ltb σ.top y) _ _ (λ r. Kept σ iskey h (Step i) (answered_with (Some (access.Write (cell_of q j) y)) v r))
         (λ _. refuse (Step i) _)
-        (λ b. moved_kept (access.Write (cell_of q j) y) (put m q j y) (v 0) (cond-false (ltb σ.top y) _ _ b ∙ put_is m q j y) k))
+        (λ b. moved_kept (Some (access.Write (cell_of q j) y)) (put m q j y) (v 0) (cond-false (ltb σ.top y) _ _ b ∙ put_is m q j y) k))
         (λ _. refuse (Step i) _)
 
     -- the latch step
@@ -197,10 +197,10 @@ module _ (σ : Setting) (iskey : ℕ → Bool) (keyed : (k : ℕ) → iskey k �
       abbrev adv : ℕ → Seat × ℕ × Report
       adv y = advance_at σ.order.before X phase.Latch x c y
 
-      swaps : worn X x ≡ false → Kept σ iskey h (Step i) (answered_with (access.Swap (cell_of x.node 0) (version x) (version x + 1)) adv
+      swaps : worn X x ≡ false → Kept σ iskey h (Step i) (answered_with (Some (access.Swap (cell_of x.node 0) (version x) (version x + 1))) adv
           (guarded m σ.top (cell_of x.node 0) (version x + 1) (get_or m (cell_of x.node 0) 0)))
       swaps n =
-          let a = access.Swap (cell_of x.node 0) (version x) (version x + 1) in
+          let a = Some (access.Swap (cell_of x.node 0) (version x) (version x + 1)) in
           let y = get_or m (cell_of x.node 0) 0 in
           let yl : y ≡ lock m x.node = word_is m x.node 0 in
           let P : Seat × Report → Type 0 = λ z. Kept σ iskey h (Step i) (moved (norm σ iskey m c ss) i a (steady c z)) in
@@ -215,22 +215,22 @@ module _ (σ : Setting) (iskey : ℕ → Bool) (keyed : (k : ℕ) → iskey k �
           (λ z. moved_kept a m _ (cond-false (eqb y (version x)) _ _ z) (lost ι i b8 e k (λ q. eqb-false y (version x) z (yl ∙ q)))))))
           (λ _. refuse (Step i) _)
 
-      wears_out : worn X x ≡ true → Kept σ iskey h (Step i) (moved (norm σ iskey m c ss) i access.None (adv 0))
+      wears_out : worn X x ≡ true → Kept σ iskey h (Step i) (moved (norm σ iskey m c ss) i None (adv 0))
       wears_out t =
-          cond_both (worn X x) _ _ (λ (z : Seat × Report). Kept σ iskey h (Step i) (moved (norm σ iskey m c ss) i access.None (steady c z)))
-          (λ _. moved_kept access.None m _ refl (wears ι i b8 e k (ltb-true σ.top (version x + 2) t)))
+          cond_both (worn X x) _ _ (λ (z : Seat × Report). Kept σ iskey h (Step i) (moved (norm σ iskey m c ss) i None (steady c z)))
+          (λ _. moved_kept None m _ refl (wears ι i b8 e k (ltb-true σ.top (version x + 2) t)))
           (λ n. absurd (true≢false (sym t ∙ n)))
 
       latch_kept : Kept σ iskey h (Step i) (step_with (Ok (access_at X phase.Latch x)) adv)
       latch_kept =
-          cond_both (worn X x) access.None (access.Swap (cell_of x.node 0) (version x) (version x + 1)) (λ a. Kept σ iskey h (Step i) (answered_with a adv (answers m σ.top a)))
+          cond_both (worn X x) None (Some (access.Swap (cell_of x.node 0) (version x) (version x + 1))) (λ a. Kept σ iskey h (Step i) (answered_with a adv (answers m σ.top a)))
           wears_out swaps
 
-    take_kept : x.phase ≡ phase.Take → SeatIn σ (world m c w g) h i phase.Take x → Kept σ iskey h (Step i) (moved (norm σ iskey m c ss) i access.None (takes X x c))
+    take_kept : x.phase ≡ phase.Take → SeatIn σ (world m c w g) h i phase.Take x → Kept σ iskey h (Step i) (moved (norm σ iskey m c ss) i None (takes X x c))
     take_kept e k =
-        cond_both (fits X x c) _ _ (λ z. Kept σ iskey h (Step i) (moved (norm σ iskey m c ss) i access.None z))
-        (λ t. moved_kept access.None m _ refl (takes_nodes ι i b8 e k (omega (arith, room t))))
-        (λ _. moved_kept access.None m _ refl (gives_up ι i b8 e k))
+        cond_both (fits X x c) _ _ (λ z. Kept σ iskey h (Step i) (moved (norm σ iskey m c ss) i None z))
+        (λ t. moved_kept None m _ refl (takes_nodes ι i b8 e k (omega (arith, room t))))
+        (λ _. moved_kept None m _ refl (gives_up ι i b8 e k))
       where
         first_false : (b : Bool) (y : Bool) → cond b false y ≡ true → b ≡ false
         first_false true y z = absurd (true≢false (sym z))
@@ -244,7 +244,7 @@ module _ (σ : Setting) (iskey : ℕ → Bool) (keyed : (k : ℕ) → iskey k �
     step_in phase.Look e k = reads x.node 0 _ (λ y q. look ι i b8 e k y q)
     step_in (phase.Copy j) e k = reads x.node j _ (λ y q. copy ι i b8 j e k y q)
     step_in phase.Check e k =
-        let a = access.Read (cell_of x.node 0) in
+        let a = Some (access.Read (cell_of x.node 0)) in
         cond_both (ltb (cell_of x.node 0) (length m)) _ _ (λ r. Kept σ iskey h (Step i) (answered_with a (advance_at σ.order.before X phase.Check x c) r))
         (λ _. check ι i b8 e k (get_or m (cell_of x.node 0) 0) (word_is m x.node 0) (λ z. Kept σ iskey h (Step i) (moved (norm σ iskey m c ss) i a z))
         (λ y r t. moved_kept a m (y, c, r) refl t))
@@ -254,7 +254,7 @@ module _ (σ : Setting) (iskey : ℕ → Bool) (keyed : (k : ℕ) → iskey k �
     step_in (phase.Fill p j) e k = stores (part_node p x) j (fill_word σ.fan x p j) _ (fills ι i b8 p j e k)
     step_in phase.Release e k = stores x.node 0 x.draft.freeing _ (release ι i b8 e k)
     step_in phase.Undo e k = stores x.node 0 x.draft.freeing _ (undoes ι i b8 e k)
-    step_in (phase.End r) e k = moved_kept access.None m _ refl (end ι i b8 r e k)
+    step_in (phase.End r) e k = moved_kept None m _ refl (end ι i b8 r e k)
 
     step_accepted : Kept σ iskey h (Step i) (step_by (norm σ iskey m c ss) i (due_in x.phase (access_of X x)))
     step_accepted = subst (Kept σ iskey h (Step i)) (step_same (due_in x.phase (access_of X x))) (step_in x.phase refl (ι.seats i))
@@ -322,7 +322,7 @@ module _ (σ : Setting) (iskey : ℕ → Bool) (keyed : (k : ℕ) → iskey k �
 
   step_kept : (i : ℕ) → Kept σ iskey h (Step i) (step (norm σ iskey m c ss) i)
   step_kept i =
-      let P : Result Access Refusal → Type 0 = λ d. Kept σ iskey h (Step i) (step_by (norm σ iskey m c ss) i d) in
+      let P : Result (Option Access) Refusal → Type 0 = λ d. Kept σ iskey h (Step i) (step_by (norm σ iskey m c ss) i d) in
       cond_both (eqb σ.fan 0) _ _ P (λ _. refuse (Step i) _)
       (λ _. cond_both (ltb i 8) _ _ P (λ b. step_accepted i (ltb-true i 8 b)) (λ _. refuse (Step i) _))
 

@@ -1,5 +1,5 @@
 -- What each call answers and leaves, refusals too. Where several refusals hold, the one that is asked first decides.
-use Rattle.std.specs.Prelude.{ℕ, Bool, true, false, cond, ◌||◌, length, replicate, Ok, Err, Result, ◌==◌, nat_lt, slice_set}
+use Rattle.std.specs.Prelude.{ℕ, Bool, true, false, cond, ◌||◌, length, replicate, Option, Ok, Err, Result, ◌==◌, nat_lt, slice_set}
 use Rattle.memory.specs.declared.fault.Fault.{Fault}
 use Rattle.rules.specs.Cells.{answers, leaves}
 use Rattle.rules.specs.Refusals.{of_fault}
@@ -64,7 +64,7 @@ begin st i k t =
 
 -- Step: seat `i` makes the access of its phase, and advances by the word that it gave.
 
-abbrev pub due_in : Phase → Access → Result Access Refusal
+abbrev pub due_in : Phase → Option Access → Result (Option Access) Refusal
 due_in phase.Idle a = Err refusal.Idle
 due_in phase.Look a = Ok a
 due_in (phase.Copy i) a = Ok a
@@ -77,24 +77,24 @@ due_in phase.Undo a = Ok a
 due_in (phase.End o) a = Ok a
 
 -- the access that is due, or why there is none
-abbrev pub due : State → ℕ → Result Access Refusal
+abbrev pub due : State → ℕ → Result (Option Access) Refusal
 due st i =
     cond (st.fan == 0) (Err refusal.Unformatted)
     (cond (nat_lt i 8) (due_in (seat_at st.seats i).phase (access_of (extent_of st) (seat_at st.seats i))) (Err refusal.NoSeat))
 
 -- the state after the access, with the seat and the node count as they advanced
-abbrev pub moved : State → ℕ → Access → Seat × ℕ × Report → Result Report Refusal × State
+abbrev pub moved : State → ℕ → Option Access → Seat × ℕ × Report → Result Report Refusal × State
 moved st i a m = (
   Ok m.2,
   record
       { cells = leaves st.cells st.top a; top = st.top; iskey = st.iskey; before = st.before; fan = st.fan; count = m.1; seats = slice_set st.seats i m.0 },
 )
 
-abbrev pub answered_by : State → ℕ → Access → Result ℕ Fault → Result Report Refusal × State
+abbrev pub answered_by : State → ℕ → Option Access → Result ℕ Fault → Result Report Refusal × State
 answered_by st i a (Err f) = (Err (of_fault f), st)
 answered_by st i a (Ok w) = moved st i a (advance st.before (extent_of st) (seat_at st.seats i) st.count w)
 
-abbrev pub step_by : State → ℕ → Result Access Refusal → Result Report Refusal × State
+abbrev pub step_by : State → ℕ → Result (Option Access) Refusal → Result Report Refusal × State
 step_by st i (Err r) = (Err r, st)
 step_by st i (Ok a) = answered_by st i a (answers st.cells st.top a)
 

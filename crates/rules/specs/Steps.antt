@@ -69,19 +69,19 @@ fill_word fan s Right w =
     node_word (level s.copy) (cond (is_root s) 0 (link s.copy)) (cond (is_root s) 0 (high s.copy)) (right_entries s.draft) w
 fill_word fan s Own w = own_word fan s w
 
-abbrev pub access_at : Extent → Phase → Seat → Access
-access_at x phase.Idle s = access.None
-access_at x phase.Look s = access.Read (cell_of s.node 0)
-access_at x (phase.Copy i) s = access.Read (cell_of s.node i)
-access_at x phase.Check s = access.Read (cell_of s.node 0)
-access_at x phase.Latch s = cond (worn x s) access.None (access.Swap (cell_of s.node 0) (version s) (version s + 1))
-access_at x phase.Take s = access.None
-access_at x (phase.Fill p i) s = access.Write (cell_of (part_node p s) i) (fill_word x.fan s p i)
-access_at x phase.Release s = access.Write (cell_of s.node 0) s.draft.freeing
-access_at x phase.Undo s = access.Write (cell_of s.node 0) s.draft.freeing
-access_at x (phase.End o) s = access.None
+abbrev pub access_at : Extent → Phase → Seat → Option Access
+access_at x phase.Idle s = None
+access_at x phase.Look s = Some (access.Read (cell_of s.node 0))
+access_at x (phase.Copy i) s = Some (access.Read (cell_of s.node i))
+access_at x phase.Check s = Some (access.Read (cell_of s.node 0))
+access_at x phase.Latch s = cond (worn x s) None (Some (access.Swap (cell_of s.node 0) (version s) (version s + 1)))
+access_at x phase.Take s = None
+access_at x (phase.Fill p i) s = Some (access.Write (cell_of (part_node p s) i) (fill_word x.fan s p i))
+access_at x phase.Release s = Some (access.Write (cell_of s.node 0) s.draft.freeing)
+access_at x phase.Undo s = Some (access.Write (cell_of s.node 0) s.draft.freeing)
+access_at x (phase.End o) s = None
 
-abbrev pub access_of : Extent → Seat → Access
+abbrev pub access_of : Extent → Seat → Option Access
 access_of x s = access_at x s.phase s
 
 -- after word `i` of a copy

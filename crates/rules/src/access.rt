@@ -1,10 +1,8 @@
 //! What a step accesses, and what it is told of the index.
 
-/// The one memory access of a step.
+/// The one memory access of a step that makes one.
 #[derive(Clone, Copy)]
 pub enum Access {
-    /// No access.
-    None,
     /// Reads the cell of this number.
     Read(u64),
     /// Makes the cell hold the word.

@@ -14,5 +14,5 @@ mod seat;
 pub use access::{Access, Extent};
 pub use laws::{runs_are_lawful, worked_examples_hold};
 pub use refusal::Refusal;
-pub use report::{Outcome, Report};
+pub use report::{Outcome, Report, Told};
 pub use seat::{Draft, Entry, Operation, Part, Phase, Seat};

@@ -4,31 +4,31 @@ ghost use Rattle.rules.specs.Refusals.{of_fault, refusal_number};
 
 use memory::Fault;
 
-/// Why a call is refused. A refused call changes nothing.
-#[derive(Clone, Copy)]
+/// Why a call is refused. A refused call changes nothing. Each refusal has its number.
+#[derive(Clone, Copy, PartialEq, Eq, Debug)]
 pub enum Refusal {
     /// The index is not formatted yet.
-    Unformatted,
+    Unformatted = 21,
     /// The seat's number is above 7.
-    NoSeat,
+    NoSeat = 22,
     /// A begin on a seat that works already.
-    Busy,
+    Busy = 23,
     /// A step's cell is outside the memory.
-    NoCell,
+    NoCell = 24,
     /// A word is above the memory's top word: the key or the value of a begin, or what a step would write.
-    TooWide,
+    TooWide = 25,
     /// The key of a begin is no key of the order.
-    NoKey,
+    NoKey = 26,
     /// A step or an abandon on a seat that does not work.
-    Idle,
+    Idle = 27,
     /// An abandon on a seat that holds a latch.
-    Holding,
+    Holding = 28,
     /// A second format.
-    Formatted,
+    Formatted = 29,
     /// A fan below 3 or above 13.
-    BadFan,
+    BadFan = 30,
     /// A format of a memory that has no room for the root.
-    TooSmall,
+    TooSmall = 31,
 }
 
 impl Refusal {
@@ -36,19 +36,7 @@ impl Refusal {
     pub fn number(self) -> u64
         ensures { result ≡ refusal_number self }
     {
-        match self {
-            Refusal::Unformatted => 21,
-            Refusal::NoSeat => 22,
-            Refusal::Busy => 23,
-            Refusal::NoCell => 24,
-            Refusal::TooWide => 25,
-            Refusal::NoKey => 26,
-            Refusal::Idle => 27,
-            Refusal::Holding => 28,
-            Refusal::Formatted => 29,
-            Refusal::BadFan => 30,
-            Refusal::TooSmall => 31,
-        }
+        self as u64
     }
 }
 

@@ -1,9 +1,12 @@
 //! What an accepted call reports.
-ghost use Rattle.std.specs.Prelude.{◌≡◌};
+ghost use Rattle.std.specs.Prelude.{◌≡◌, Err};
+ghost use Rattle.rules.specs.Events.{told_by, ends};
 ghost use Rattle.rules.specs.Reports.{told};
 
+use super::Refusal;
+
 /// How a put ends.
-#[derive(Clone, Copy)]
+#[derive(Clone, Copy, PartialEq, Eq, Debug)]
 pub enum Outcome {
     /// The pair is stored, and its key is new.
     Stored,
@@ -18,7 +21,7 @@ pub enum Outcome {
 }
 
 /// What an accepted call reports. A step's report has the node that its seat was at when the step began.
-#[derive(Clone, Copy)]
+#[derive(Clone, Copy, PartialEq, Eq, Debug)]
 pub enum Report {
     /// The step, begin or format went on.
     GoneOn(u64),
@@ -73,15 +76,15 @@ impl Report {
         ensures { result ≡ (told self).1 }
     {
         match self {
-            Report::GoneOn(node) => node,
-            Report::TurnedBack(node) => node,
-            Report::Latched(node) => node,
-            Report::Published(node) => node,
-            Report::Posted(node) => node,
-            Report::Unchanged(node) => node,
-            Report::Found { node, .. } => node,
-            Report::Absent(node) => node,
-            Report::Ended { node, .. } => node,
+            Report::GoneOn(node)
+            | Report::TurnedBack(node)
+            | Report::Latched(node)
+            | Report::Published(node)
+            | Report::Posted(node)
+            | Report::Unchanged(node)
+            | Report::Found { node, .. }
+            | Report::Absent(node)
+            | Report::Ended { node, .. } => node,
             Report::Abandoned { .. } => 0,
         }
     }
@@ -97,6 +100,61 @@ impl Report {
                 ..
             } => old,
             _ => 0,
+        }
+    }
+
+    /// Whether the report leaves its seat idle: one of 6 to 14.
+    pub fn ends(self) -> bool
+        ensures { result ≡ ends (told self).0 }
+    {
+        matches!(
+            self,
+            Report::Found { .. }
+                | Report::Absent(_)
+                | Report::Ended { .. }
+                | Report::Abandoned { .. }
+        )
+    }
+}
+
+/// What an answer tells: the number of its report or refusal, the node and the word. A refusal has node and word 0.
+#[derive(Clone, Copy, PartialEq, Eq, Debug, Default)]
+pub struct Told {
+    pub number: u64,
+    pub node: u64,
+    pub word: u64,
+}
+
+impl From<Report> for Told {
+    ghost from_gives = { λ report t. (t.number, t.node, t.word) ≡ told report };
+
+    fn from(report: Report) -> Told {
+        Told {
+            number: report.number(),
+            node: report.node(),
+            word: report.word(),
+        }
+    }
+}
+
+impl From<Refusal> for Told {
+    ghost from_gives = { λ refusal t. (t.number, t.node, t.word) ≡ told_by (Err refusal) };
+
+    fn from(refusal: Refusal) -> Told {
+        Told {
+            number: refusal.number(),
+            ..Told::default()
+        }
+    }
+}
+
+impl From<Result<Report, Refusal>> for Told {
+    ghost from_gives = { λ answer t. (t.number, t.node, t.word) ≡ told_by answer };
+
+    fn from(answer: Result<Report, Refusal>) -> Told {
+        match answer {
+            Ok(report) => Told::from(report),
+            Err(refusal) => Told::from(refusal),
         }
     }
 }
