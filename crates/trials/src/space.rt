@@ -59,7 +59,7 @@ impl Space {
         self.key_in(draw & 0xFFFF_FFFF)
     }
 
-    /// The key of a number, which goes round the keys.
+    /// The key of a number, counted round and round the key space.
     pub(crate) fn key_in(&self, number: u64) -> u64 {
         self.key(number % self.keys.get())
     }

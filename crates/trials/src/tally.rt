@@ -1,7 +1,7 @@
 //! What the calls of a trial answered.
 
 use super::digest::Digest;
-use rules::{Refusal, Report};
+use rules::{Refusal, Report, Told};
 use std::fmt;
 
 /// How often each number was answered, and the digest of all answers.
@@ -14,16 +14,13 @@ pub(crate) struct Tally {
 impl Tally {
     /// Takes one answer more.
     pub(crate) fn note(&mut self, answer: Result<Report, Refusal>) {
-        let (number, node, word) = match answer {
-            Ok(report) => (report.number(), report.node(), report.word()),
-            Err(refusal) => (refusal.number(), 0, 0),
-        };
+        let Told { number, node, word } = Told::from(answer);
         if let Some(count) = self.counts.get_mut(number as usize) {
             *count = count.saturating_add(1);
         }
-        self.digest.add(number);
-        self.digest.add(node);
-        self.digest.add(word);
+        for told in [number, node, word] {
+            self.digest.add(told);
+        }
     }
 
     /// Takes the word of a cell into the digest.

@@ -63,7 +63,7 @@ impl<M: Memory, O: Order> Trial<M, O> {
     fn drive(&mut self, seat: u64, most: u64) {
         for _ in 0..most {
             match self.call(|index| index.step(seat)) {
-                Ok(report) if report.number() < 6 => {}
+                Ok(report) if !report.ends() => {}
                 _ => return,
             }
         }
@@ -89,39 +89,27 @@ impl<M: Memory, O: Order> Trial<M, O> {
     /// One call, drawn.
     fn mixed(&mut self) {
         let fan = self.fan;
-        let Draw {
-            call,
-            seat,
-            key,
-            value,
-            most: _,
-        } = self.draw();
-        let _ = self.call(|index| match call {
-            0..=11 => index.begin_find(seat, key),
-            12..=43 => index.begin_put(seat, key, value),
-            44 => index.abandon(seat),
+        let draw = self.draw();
+        let _ = self.call(|index| match draw.call {
+            0..=11 => index.begin_find(draw.seat, draw.key),
+            12..=43 => index.begin_put(draw.seat, draw.key, draw.value),
+            44 => index.abandon(draw.seat),
             45 => index.format(fan),
-            _ => index.step(seat),
+            _ => index.step(draw.seat),
         });
     }
 
     /// One call, drawn, and then steps of its seat.
     fn burst(&mut self) {
         let fan = self.fan;
-        let Draw {
-            call,
-            seat,
-            key,
-            value,
-            most,
-        } = self.draw();
-        let _ = self.call(|index| match call {
-            0..=15 => index.abandon(seat),
+        let draw = self.draw();
+        let _ = self.call(|index| match draw.call {
+            0..=15 => index.abandon(draw.seat),
             16..=17 => index.format(fan),
-            18..=199 => index.begin_find(seat, key),
-            _ => index.begin_put(seat, key, value),
+            18..=199 => index.begin_find(draw.seat, draw.key),
+            _ => index.begin_put(draw.seat, draw.key, draw.value),
         });
-        self.drive(seat, most);
+        self.drive(draw.seat, draw.most);
     }
 
     /// A put from begin to end on seat 0.
@@ -172,9 +160,7 @@ pub(crate) fn run_trial<M: Memory + Drop, O: Order + Drop>(
     let Trial {
         index,
         mut tally,
-        random: _,
-        space: _,
-        fan: _,
+        ..
     } = trial;
     let memory = index.into_memory();
     for cell in 0..memory.length() {
