@@ -13,13 +13,6 @@ pub value_two : (l : List ℕ) → length l ≤ 2 → get_or l 0 0 + get_or l 1 
 value_two l h =
     omega (arith, value_eight l (omega arith), get_or_past l 2 0 h, get_or_past l 3 0 (omega arith), get_or_past l 4 0 (omega arith), get_or_past l 5 0 (omega arith), get_or_past l 6 0 (omega arith), get_or_past l 7 0 (omega arith))
 
--- a number is read by copying its bytes
-pub number_read : (bytes copied : List ℕ) (at n r : ℕ) → copied ≡ take (at + n - at) (drop at bytes) → r ≡ value copied → r ≡ number_at bytes at n
-unfolding number_at
-number_read bytes copied at n r c e =
-    let count : at + n - at ≡ n = omega arith in
-    e ∙ ap value (c ∙ ap (λ k. take k (drop at bytes)) count)
-
 -- ---- one record
 
 -- a record that is not cut is read by its kind and length
@@ -29,10 +22,6 @@ not_cut bytes kind len k e f long whole r =
     cond-false _ (Err CutRecord) _ (le-ltb (length bytes) 4 long)
     ∙ cond-false _ (Err CutRecord) _ (le-ltb (length bytes) (span bytes) (omega arith))
     ∙ sym (r ∙ (λ i. record_of (e i) (f i) bytes))
-
--- what follows it
-pub what_follows : (bytes : List ℕ) (len : ℕ) → len ≡ length_in bytes → take (length bytes - (2 + len)) (drop (2 + len) bytes) ≡ drop (span bytes) bytes
-what_follows bytes len e = take_rest bytes (2 + len) ∙ ap (λ n. drop (2 + n) bytes) e
 
 err_not_ok : (f : TapeFault) (r : Record) → Err f ≡ Ok r → ⊥
 err_not_ok f r e = let z : ◌≡◌ {A = ℕ} 0 1 = cc in omega arith

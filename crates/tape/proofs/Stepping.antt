@@ -20,31 +20,31 @@ abbrev Answer : Type 0
 Answer = Result Report Refusal × State
 
 -- the line after a step of this answer
-abbrev next_line : Line → Result Report Refusal → Line
-next_line so_far a = line 3 (told_by a) (counted so_far.steps a)
+abbrev next_line : ℕ → Line → Result Report Refusal → Line
+next_line kind so_far a = line kind (told_by a) (counted so_far.steps a)
 
 -- steps as a loop makes them: the line so far, which each step replaces, and the state
-abbrev pub run_on : ℕ → ℕ → Line → State → Line × State
-run_on zero seat so_far st = (so_far, st)
-run_on (suc n) seat so_far st =
-    cond (stops (step st seat).0) (next_line so_far (step st seat).0, (step st seat).1) (run_on n seat (next_line so_far (step st seat).0) (step st seat).1)
+abbrev pub run_on : ℕ → ℕ → ℕ → Line → State → Line × State
+run_on kind zero seat so_far st = (so_far, st)
+run_on kind (suc n) seat so_far st =
+    cond (stops (step st seat).0) (next_line kind so_far (step st seat).0, (step st seat).1) (run_on kind n seat (next_line kind so_far (step st seat).0) (step st seat).1)
 
 -- a loop that has made `made` steps, all accepted, makes that line
-pub line_made : (so_far new : Line) (a : Result Report Refusal) (made steps : ℕ) → so_far.steps ≡ made → steps ≡ counted made a → new ≡ line 3 (told_by a) steps → new ≡ next_line so_far a
-line_made so_far new a made steps m s n = n ∙ ap (line 3 (told_by a)) (s ∙ ap (λ k. counted k a) (sym m))
+pub line_made : (kind : ℕ) (so_far new : Line) (a : Result Report Refusal) (made steps : ℕ) → so_far.steps ≡ made → steps ≡ counted made a → new ≡ line kind (told_by a) steps → new ≡ next_line kind so_far a
+line_made kind so_far new a made steps m s n = n ∙ ap (line kind (told_by a)) (s ∙ ap (λ k. counted k a) (sym m))
 
 -- a step that answers `a`, leaves `next` and makes the line `new`
-module _ (seat : ℕ) (so_far new : Line) (st next : State) (a : Result Report Refusal) (e : (a, next) ≡ step st seat) (n : new ≡ next_line so_far a) where
-  unrolled : (k m : ℕ) → k ≡ suc m → cond (stops a) (new, next) (run_on m seat new next) ≡ run_on k seat so_far st
+module _ (kind seat : ℕ) (so_far new : Line) (st next : State) (a : Result Report Refusal) (e : (a, next) ≡ step st seat) (n : new ≡ next_line kind so_far a) where
+  unrolled : (k m : ℕ) → k ≡ suc m → cond (stops a) (new, next) (run_on kind m seat new next) ≡ run_on kind k seat so_far st
   unrolled k m more =
-      ap (λ l. cond (stops a) (l, next) (run_on m seat l next)) n
-      ∙ ap (λ (p : Answer). cond (stops p.0) (next_line so_far p.0, p.1) (run_on m seat (next_line so_far p.0) p.1)) e
-      ∙ ap (λ c. run_on c seat so_far st) (sym more)
+      ap (λ l. cond (stops a) (l, next) (run_on kind m seat l next)) n
+      ∙ ap (λ (p : Answer). cond (stops p.0) (next_line kind so_far p.0, p.1) (run_on kind m seat (next_line kind so_far p.0) p.1)) e
+      ∙ ap (λ c. run_on kind c seat so_far st) (sym more)
 
-  pub stop : (k m : ℕ) → k ≡ suc m → stops a ≡ true → ◌≡◌ {A = Line × State} (new, next) (run_on k seat so_far st)
+  pub stop : (k m : ℕ) → k ≡ suc m → stops a ≡ true → ◌≡◌ {A = Line × State} (new, next) (run_on kind k seat so_far st)
   stop k m more s = sym (cond-true (stops a) _ _ s) ∙ unrolled k m more
 
-  pub go_on : (k m : ℕ) → k ≡ suc m → stops a ≡ false → run_on m seat new next ≡ run_on k seat so_far st
+  pub go_on : (k m : ℕ) → k ≡ suc m → stops a ≡ false → run_on kind m seat new next ≡ run_on kind k seat so_far st
   go_on k m more s = sym (cond-false (stops a) _ _ s) ∙ unrolled k m more
 
 -- a seat goes on after an accepted step
@@ -88,21 +88,21 @@ step_counted seat (Ok r) es = sym (cond-true (ltb (told r).0 21) _ _ (report_bel
 step_counted seat (Err f) es = sym (cond-false (ltb (refusal_number f) 21) _ _ (refusal_above f))
 
 -- the loop's line and state are those of the calls that it makes
-run_tells : (n seat : ℕ) (es : History) (st : State) → run_on n seat (line_of 3 es) st ≡ (line_of 3 ((stepped n seat st).events ++ es), (stepped n seat st).state)
-run_tells zero seat es st = refl
-run_tells (suc n) seat es st =
+run_tells : (kind n seat : ℕ) (es : History) (st : State) → run_on kind n seat (line_of kind es) st ≡ (line_of kind ((stepped n seat st).events ++ es), (stepped n seat st).state)
+run_tells kind zero seat es st = refl
+run_tells kind (suc n) seat es st =
     let a = (step st seat).0 in
     let one : Event = record { call = Step seat; answer = a } in
     let later = stepped n seat (step st seat).1 in
-    let counts = ap (λ k. line 3 (told_by a) k) (step_counted seat a es) in
-    let rest = run_tells n seat (one ∷ es) (step st seat).1 in
-    elim (stops a) as (λ b. cond b (next_line (line_of 3 es) a, (step st seat).1) (run_on n seat (next_line (line_of 3 es) a) (step st seat).1) ≡ (line_of 3 ((cond b (called (Step seat) st) (after (called (Step seat) st) later)).events ++ es), (cond b (called (Step seat) st) (after (called (Step seat) st) later)).state)) [
+    let counts = ap (λ k. line kind (told_by a) k) (step_counted seat a es) in
+    let rest = run_tells kind n seat (one ∷ es) (step st seat).1 in
+    elim (stops a) as (λ b. cond b (next_line kind (line_of kind es) a, (step st seat).1) (run_on kind n seat (next_line kind (line_of kind es) a) (step st seat).1) ≡ (line_of kind ((cond b (called (Step seat) st) (after (called (Step seat) st) later)).events ++ es), (cond b (called (Step seat) st) (after (called (Step seat) st) later)).state)) [
       | true ↦ ap (λ l. (l, (step st seat).1)) counts
-      | false ↦ ap (λ l. run_on n seat l (step st seat).1) counts ∙ rest ∙ ap (λ h. (line_of 3 h, later.state)) (sym (append_assoc later.events (one ∷ []) es))
+      | false ↦ ap (λ l. run_on kind n seat l (step st seat).1) counts ∙ rest ∙ ap (λ h. (line_of kind h, later.state)) (sym (append_assoc later.events (one ∷ []) es))
     ]
 
-pub all_run : (count seat : ℕ) (st : State) (l : Line) (last : State) → ◌≡◌ {A = Line × State} (l, last) (run_on count seat (line_of 3 []) st)
-    → (l ≡ line_of 3 (stepped count seat st).events) × (last ≡ (stepped count seat st).state)
-all_run count seat st l last e =
-    let whole = e ∙ run_tells count seat [] st ∙ ap (λ h. (line_of 3 h, (stepped count seat st).state)) (append-nil (stepped count seat st).events) in
+pub all_run : (kind count seat : ℕ) (st : State) (l : Line) (last : State) → ◌≡◌ {A = Line × State} (l, last) (run_on kind count seat (line_of kind []) st)
+    → (l ≡ line_of kind (stepped count seat st).events) × (last ≡ (stepped count seat st).state)
+all_run kind count seat st l last e =
+    let whole = e ∙ run_tells kind count seat [] st ∙ ap (λ h. (line_of kind h, (stepped count seat st).state)) (append-nil (stepped count seat st).events) in
     (ap (λ p. p.0) whole, ap (λ p. p.1) whole)

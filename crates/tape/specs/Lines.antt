@@ -4,13 +4,14 @@ use Rattle.rules.specs.Events.{told_by, accepted}
 use Rattle.rules.specs.Histories.{Call, Format, BeginFind, BeginPut, Step, Abandon, History}
 use Rattle.rules.specs.declared.refusal.Refusal.{Refusal}
 use Rattle.rules.specs.declared.report.Report.{Report}
+use Rattle.rules.specs.declared.report.Told.{Told}
 use Rattle.tape.specs.Records.{tape_fault_number}
 use Rattle.tape.specs.declared.fault.TapeFault.{TapeFault}
 use Rattle.tape.specs.declared.line.Line.{Line}
 
 -- a line: a record's kind, the number, node and word of an answer, and how many steps were accepted
 abbrev pub line : ℕ → ℕ × ℕ × ℕ → ℕ → Line
-line kind told steps = record { kind = kind; number = told.0; node = told.1; word = told.2; steps = steps }
+line kind told steps = record { kind = kind; told = record { number = told.0; node = told.1; word = told.2 }; steps = steps }
 
 -- what the last answer told; zeros where no call was made
 abbrev pub last_told : History → ℕ × ℕ × ℕ
@@ -45,7 +46,7 @@ counted n (Err f) = n
 -- the five numbers of a line in decimal, with a space between them
 abbrev pub line_text : Line → List ℕ
 line_text l =
-    decimal l.kind ++ (codes " " ++ (decimal l.number ++ (codes " " ++ (decimal l.node ++ (codes " " ++ (decimal l.word ++ (codes " " ++ decimal l.steps)))))))
+    decimal l.kind ++ (codes " " ++ (decimal l.told.number ++ (codes " " ++ (decimal l.told.node ++ (codes " " ++ (decimal l.told.word ++ (codes " " ++ decimal l.steps)))))))
 
 -- each line ends with a newline
 abbrev pub lines_text : List Line → List ℕ
