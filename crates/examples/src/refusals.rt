@@ -115,12 +115,9 @@ fn after_format_with_nothing_lost(rt: HostRuntime) {
     refuses(&rt, &mut index);
     ended(&rt, &mut index);
     let bytes = index.into_memory().into_bytes();
-    assert!(rt; calm.len() == bytes.len());
-    for (first, second) in calm.iter().zip(bytes.iter()) {
-        assert_eq!(rt;
-            *first,
-            *second,
-            "the cells are those of a run with no refused call"
-        );
-    }
+    assert_eq!(rt;
+        &*calm,
+        &*bytes,
+        "the cells are those of a run with no refused call"
+    );
 }

@@ -33,7 +33,7 @@ fn cells_of_no_whole_node_are_never_touched(rt: HostRuntime) {
         let _ = put(&mut index, key, 1);
     }
     let words = index.into_memory().into_words();
-    for (cell, word) in words.iter().enumerate() {
-        assert!(rt; cell < 32 || *word == 9);
+    for word in words.iter().skip(32) {
+        assert_eq!(rt; *word, 9);
     }
 }
