@@ -1,6 +1,6 @@
 -- Steps, one after the other.
-use Rattle.std.proofs.Common.{◌≡◌, ℕ, zero, suc, ◌+◌, true, false, cond, ltb, [], ◌∷◌, ◌++◌, Ok, Err, Result, sym, refl, ap, ◌∙◌, append_assoc, append-nil}
-use Rattle.std.proofs.lemmas.Bool.{cond-true, cond-false, true≢false}
+use Rattle.std.proofs.Common.{◌≡◌, ℕ, zero, suc, ◌+◌, true, false, cond, ltb, [], ◌∷◌, ◌++◌, Ok, Err, Result, sym, refl, ap, ◌∙◌, append_assoc, append-nil, arith}
+use Rattle.std.proofs.lemmas.Bool.{cond-true, cond-false}
 use Rattle.rules.specs.Calls.{step}
 use Rattle.rules.specs.Events.{told_by}
 use Rattle.rules.specs.Histories.{Step, Event, History}
@@ -8,10 +8,7 @@ use Rattle.rules.specs.Refusals.{refusal_number}
 use Rattle.rules.specs.Reports.{told}
 use Rattle.rules.specs.State.{State}
 use Rattle.rules.specs.declared.refusal.Refusal.{Refusal}
-use Rattle.rules.specs.declared.refusal.Refusal.TheVariants as refusal
-use Rattle.rules.specs.declared.report.Outcome.TheVariants.{Stored, Replaced, Untold, Full, Worn}
 use Rattle.rules.specs.declared.report.Report.{Report}
-use Rattle.rules.specs.declared.report.Report.TheVariants.{GoneOn, TurnedBack, Latched, Published, Posted, Unchanged, Found, Absent, Ended, Abandoned}
 use Rattle.tape.specs.Lines.{line, line_of, steps_in, counted}
 use Rattle.tape.specs.Play.{called, after, stops, stepped}
 use Rattle.tape.specs.declared.line.Line.{Line}
@@ -49,39 +46,14 @@ module _ (kind seat : ℕ) (so_far new : Line) (st next : State) (a : Result Rep
 
 -- a seat goes on after an accepted step
 pub goes_on_counted : (a : Result Report Refusal) (n : ℕ) → stops a ≡ false → counted n a ≡ n + 1
-goes_on_counted (Ok r) n e = refl
-goes_on_counted (Err f) n e = absurd (true≢false e)
+goes_on_counted a n = grind arith
 
 -- reports are numbered below 21, and refusals from 21 on
 report_below : (r : Report) → ltb (told r).0 21 ≡ true
-report_below (GoneOn n) = refl
-report_below (TurnedBack n) = refl
-report_below (Latched n) = refl
-report_below (Published n) = refl
-report_below (Posted n) = refl
-report_below (Unchanged n) = refl
-report_below (Found n w) = refl
-report_below (Absent n) = refl
-report_below (Ended n Stored) = refl
-report_below (Ended n (Replaced w)) = refl
-report_below (Ended n Untold) = refl
-report_below (Ended n Full) = refl
-report_below (Ended n Worn) = refl
-report_below (Abandoned true) = refl
-report_below (Abandoned false) = refl
+report_below r = grind arith
 
 refusal_above : (f : Refusal) → ltb (refusal_number f) 21 ≡ false
-refusal_above refusal.Unformatted = refl
-refusal_above refusal.NoSeat = refl
-refusal_above refusal.Busy = refl
-refusal_above refusal.NoCell = refl
-refusal_above refusal.TooWide = refl
-refusal_above refusal.NoKey = refl
-refusal_above refusal.Idle = refl
-refusal_above refusal.Holding = refl
-refusal_above refusal.Formatted = refl
-refusal_above refusal.BadFan = refl
-refusal_above refusal.TooSmall = refl
+refusal_above f = grind arith
 
 step_counted : (seat : ℕ) (a : Result Report Refusal) (es : History) → counted (steps_in es) a ≡ steps_in (record { call = Step seat; answer = a } ∷ es)
 step_counted seat (Ok r) es = sym (cond-true (ltb (told r).0 21) _ _ (report_below r))

@@ -4,7 +4,6 @@ use Rattle.rules.specs.Events.{told_by, accepted}
 use Rattle.rules.specs.Histories.{Call, Format, BeginFind, BeginPut, Step, Abandon, History}
 use Rattle.rules.specs.declared.refusal.Refusal.{Refusal}
 use Rattle.rules.specs.declared.report.Report.{Report}
-use Rattle.rules.specs.declared.report.Told.{Told}
 use Rattle.tape.specs.Records.{tape_fault_number}
 use Rattle.tape.specs.declared.fault.TapeFault.{TapeFault}
 use Rattle.tape.specs.declared.line.Line.{Line}

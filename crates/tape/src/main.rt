@@ -16,9 +16,7 @@ fn run(rt: &HostRuntime) -> anyhow::Result<()> {
     let heap = rt.alloc();
     let mut tape = Vec::new(heap);
     // one byte past the longest tape tells that a tape is too long
-    rt.stdin()
-        .take(LONGEST as u64 + 1)
-        .read_to_end(&mut tape)?;
+    rt.stdin().take(LONGEST as u64 + 1).read_to_end(&mut tape)?;
     let text = printed(heap, tape.as_slice())?;
     rt.print(text)?;
     Ok(())

@@ -17,7 +17,7 @@ pub(crate) enum Bank {
 pub(crate) enum MemoryKind {
     /// Cells of one kind.
     One(Bank),
-    /// Cells of one kind, and after them as many of another.
+    /// Half of the cells of one kind, and after them the others of another.
     Two(Bank, Bank),
 }
 
