@@ -1,5 +1,5 @@
 -- Steps, one after the other.
-use Rattle.std.proofs.Common.{◌≡◌, ℕ, zero, suc, ◌+◌, true, false, cond, ltb, [], ◌∷◌, ◌++◌, Ok, Err, Result, sym, refl, ap, ◌∙◌, append_assoc, append-nil, arith}
+use Rattle.std.proofs.Common.{◌≡◌, ℕ, zero, suc, ◌+◌, ◌-◌, ◌<◌, true, false, cond, ltb, [], ◌∷◌, ◌++◌, Ok, Err, Result, sym, refl, ap, ◌∙◌, append_assoc, append-nil, arith}
 use Rattle.std.proofs.lemmas.Bool.{cond-true, cond-false}
 use Rattle.rules.specs.Calls.{step}
 use Rattle.rules.specs.Events.{told_by}
@@ -26,27 +26,26 @@ run_on kind zero seat so_far st = (so_far, st)
 run_on kind (suc n) seat so_far st =
     cond (stops (step st seat).0) (next_line kind so_far (step st seat).0, (step st seat).1) (run_on kind n seat (next_line kind so_far (step st seat).0) (step st seat).1)
 
--- a loop that has made `made` steps, all accepted, makes that line
-pub line_made : (kind : ℕ) (so_far new : Line) (a : Result Report Refusal) (made steps : ℕ) → so_far.steps ≡ made → steps ≡ counted made a → new ≡ line kind (told_by a) steps → new ≡ next_line kind so_far a
-line_made kind so_far new a made steps m s n = n ∙ ap (line kind (told_by a)) (s ∙ ap (λ k. counted k a) (sym m))
+-- a seat goes on after an accepted step
+goes_on_counted : (a : Result Report Refusal) (n : ℕ) → stops a ≡ false → counted n a ≡ n + 1
+goes_on_counted a n = grind arith
 
--- a step that answers `a`, leaves `next` and makes the line `new`
-module _ (kind seat : ℕ) (so_far new : Line) (st next : State) (a : Result Report Refusal) (e : (a, next) ≡ step st seat) (n : new ≡ next_line kind so_far a) where
-  unrolled : (k m : ℕ) → k ≡ suc m → cond (stops a) (new, next) (run_on kind m seat new next) ≡ run_on kind k seat so_far st
-  unrolled k m more =
-      ap (λ l. cond (stops a) (l, next) (run_on kind m seat l next)) n
-      ∙ ap (λ (p : Answer). cond (stops p.0) (next_line kind so_far p.0, p.1) (run_on kind m seat (next_line kind so_far p.0) p.1)) e
+-- a loop of `count` steps has made `made`, all accepted, and so far the line `so_far`; its next answers `a`, leaves `next` and makes the line `new`
+module _ (kind seat count made steps : ℕ) (so_far new : Line) (st next : State) (a : Result Report Refusal) (below : made < count)
+    (m : so_far.steps ≡ made) (e : (a, next) ≡ step st seat) (s : steps ≡ counted made a) (n : new ≡ line kind (told_by a) steps) where
+  unrolled : cond (stops a) (new, next) (run_on kind (count - (made + 1)) seat new next) ≡ run_on kind (count - made) seat so_far st
+  unrolled =
+      let more : count - made ≡ suc (count - (made + 1)) = omega arith in
+      let left : ℕ = count - (made + 1) in
+      ap (λ l. cond (stops a) (l, next) (run_on kind left seat l next)) (n ∙ ap (line kind (told_by a)) (s ∙ ap (λ k. counted k a) (sym m)))
+      ∙ ap (λ (p : Answer). cond (stops p.0) (next_line kind so_far p.0, p.1) (run_on kind left seat (next_line kind so_far p.0) p.1)) e
       ∙ ap (λ c. run_on kind c seat so_far st) (sym more)
 
-  pub stop : (k m : ℕ) → k ≡ suc m → stops a ≡ true → ◌≡◌ {A = Line × State} (new, next) (run_on kind k seat so_far st)
-  stop k m more s = sym (cond-true (stops a) _ _ s) ∙ unrolled k m more
+  pub stop : stops a ≡ true → ◌≡◌ {A = Line × State} (new, next) (run_on kind (count - made) seat so_far st)
+  stop stopped = sym (cond-true (stops a) _ _ stopped) ∙ unrolled
 
-  pub go_on : (k m : ℕ) → k ≡ suc m → stops a ≡ false → run_on kind m seat new next ≡ run_on kind k seat so_far st
-  go_on k m more s = sym (cond-false (stops a) _ _ s) ∙ unrolled k m more
-
--- a seat goes on after an accepted step
-pub goes_on_counted : (a : Result Report Refusal) (n : ℕ) → stops a ≡ false → counted n a ≡ n + 1
-goes_on_counted a n = grind arith
+  pub go_on : stops a ≡ false → (new.steps ≡ made + 1) × (run_on kind (count - (made + 1)) seat new next ≡ run_on kind (count - made) seat so_far st)
+  go_on goes = (ap (λ l. l.steps) n ∙ s ∙ goes_on_counted a made goes, sym (cond-false (stops a) _ _ goes) ∙ unrolled)
 
 -- reports are numbered below 21, and refusals from 21 on
 report_below : (r : Report) → ltb (told r).0 21 ≡ true
