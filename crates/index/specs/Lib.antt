@@ -1,3 +1,4 @@
+pub mod Extents
 pub mod Reach
 pub mod Views
 pub mod Runs

@@ -1,19 +1,20 @@
 //! The accesses to the memory.
-ghost use Rattle.std.specs.Prelude.{◌≡◌, ◌+◌, ◌/◌, ◌≤◌, length, if◌then◌else◌, Some, None, MatchResult, OnErr, nat_lt};
+ghost use Rattle.std.specs.Prelude.{◌≡◌, ◌+◌, ◌≤◌, if◌then◌else◌, Some, None, MatchResult, OnErr, nat_lt};
 ghost use Rattle.memory.specs.declared.fault.Fault.TheVariants.{NoCell};
 ghost use Rattle.rules.specs.Cells.{answers, leaves};
 ghost use Rattle.rules.specs.Nodes.{cell_of};
 ghost use Rattle.rules.specs.State.{zeroed};
-ghost use Rattle.rules.specs.Steps.{version, access_of};
-ghost use Rattle.index.specs.Reach.{Beyond};
+ghost use Rattle.rules.specs.Steps.{version};
+ghost use Rattle.index.specs.Extents.{extent_over};
+ghost use Rattle.index.specs.Reach.{Due};
 
 use memory::{Fault, LONGEST, Memory};
 use node::fill_word;
-use rules::{Access, Extent, Phase, Seat};
+use rules::{Access, Extent, Phase, Refusal, Seat};
 
 /// What a step takes of the index beside its cells and the seat.
 pub fn extent<M: Memory>(memory: &M, fan: u8) -> Extent
-    ensures { result ≡ record { fan = fan; top = M.top memory.now; nodes = length (M.cells memory.now) / 32 } }
+    ensures { result ≡ extent_over fan (M.cells memory.now) (M.top memory.now) }
 {
     Extent {
         fan,
@@ -43,14 +44,15 @@ pub fn freeing(seat: &Seat, top: u64) -> Option<u64>
     }
 }
 
-/// The access that a seat's next step makes, if it makes one.
-pub fn access(seat: &Seat, extent: Extent) -> Result<Option<Access>, Fault>
-    ensures { MatchResult result (λ a. a ≡ access_of extent seat.now) (λ f. (f ≡ NoCell) × Beyond (access_of extent seat.now)) }
+/// The access that is due at a seat, if its next step makes one. It is refused as the rules say, or where no memory has
+/// the cell.
+pub fn access<M: Memory>(seat: &Seat, memory: &M, fan: u8) -> Result<Option<Access>, Refusal>
+    ensures { Due (extent_over fan (M.cells memory.now) (M.top memory.now)) seat.now result }
 {
     Ok(Some(match seat.phase {
         Phase::Look | Phase::Check => Access::Read(cell(seat.node, 0)?),
         Phase::Copy { next } => Access::Read(cell(seat.node, next)?),
-        Phase::Latch => match freeing(seat, extent.top) {
+        Phase::Latch => match freeing(seat, memory.top_word()) {
             Some(freeing) => Access::Swap {
                 cell: cell(seat.node, 0)?,
                 expected: seat.copy[0],
@@ -59,7 +61,7 @@ pub fn access(seat: &Seat, extent: Extent) -> Result<Option<Access>, Fault>
             None => return Ok(None),
         },
         Phase::Fill { part, next } => {
-            let (node, word) = fill_word(seat, extent.fan, part, next);
+            let (node, word) = fill_word(seat, fan, part, next);
             Access::Write {
                 cell: cell(node, next)?,
                 word,
@@ -69,7 +71,8 @@ pub fn access(seat: &Seat, extent: Extent) -> Result<Option<Access>, Fault>
             cell: cell(seat.node, 0)?,
             word: seat.draft.freeing,
         },
-        Phase::Idle | Phase::Take | Phase::End(_) => return Ok(None),
+        Phase::Take | Phase::End(_) => return Ok(None),
+        Phase::Idle => return Err(Refusal::Idle),
     }))
 }
 

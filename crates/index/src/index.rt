@@ -3,31 +3,41 @@
 //! Each public call says what the step rules say of it (`rule`), that a refusal leaves all as it was (`refused`), that
 //! what lies outside the memory's row stays (`outside`), where it leads every run that led here (`reached`), and that
 //! every such run stays lawful (`lawful`).
-ghost use Rattle.std.specs.Prelude.{◌≡◌, ◌<◌, Ok, Err, MatchResult, OnErr, OnOk};
-ghost use Rattle.rules.specs.Calls.{format as format_rule, begin as begin_rule, due as due_rule, step as step_rule, abandon as abandon_rule, abandoned};
+ghost use Rattle.std.specs.Prelude.{◌≡◌, OnErr};
+ghost use Rattle.rules.specs.Calls.{format as format_rule, begin as begin_rule, step as step_rule, abandon as abandon_rule};
 ghost use Rattle.rules.specs.Histories.{BeginFind, BeginPut, Step, Abandon};
-ghost use Rattle.rules.specs.Seats.{starting_out};
-ghost use Rattle.rules.specs.State.{seat_at, with_seat};
-ghost use Rattle.rules.specs.declared.report.Report.TheVariants.{GoneOn};
 ghost use Rattle.rules.specs.declared.seat.Operation.TheVariants.{Find, Put};
 ghost use Rattle.index.specs.Runs.{Starts, LeadsOn, StaysLawful};
 ghost use Rattle.index.specs.Views.{view, placed, Fresh};
 
-use super::access::{access, clear, extent, perform};
+use super::access::{access, clear, perform};
+use super::fan::Fan;
 use super::seat::{abandon_report, go_on, idle, start_out, value_of};
 use memory::Memory;
 use order::Order;
-use rules::{Access, Operation, Phase, Refusal, Report, Seat};
+use rules::{Operation, Phase, Refusal, Report, Seat};
 
-/// An index over a memory, in an order. Its fan is 0 until it is formatted.
+/// An index over a memory, in an order.
 #[derive(Drop)]
 pub struct Index<M: Memory, O: Order> {
     memory: M,
     order: O,
-    fan: u8,
+    /// None until the index is formatted.
+    fan: Option<Fan>,
     /// How many nodes are in use.
     count: u64,
     seats: [Seat; 8],
+}
+
+/// Where a seat stands in the table.
+fn place(seat: u64) -> Result<usize, Refusal>
+    ensures { result ≡ placed seat }
+{
+    if seat < 8 {
+        Ok(seat as usize)
+    } else {
+        Err(Refusal::NoSeat)
+    }
 }
 
 impl<M: Memory, O: Order> Index<M, O> {
@@ -39,7 +49,7 @@ impl<M: Memory, O: Order> Index<M, O> {
         Index {
             memory,
             order,
-            fan: 0,
+            fan: None,
             count: 0,
             seats: [idle(); 8],
         }
@@ -60,17 +70,15 @@ impl<M: Memory, O: Order> Index<M, O> {
         ensures rule { (result, view M.Memory O.Order self.new) ≡ format_rule (view M.Memory O.Order self.old) fan }
         ensures outside { M.outside self.new.memory ≡ M.outside self.old.memory }
     {
-        if self.fan != 0 {
+        if self.fan.is_some() {
             return Err(Refusal::Formatted);
         }
-        if fan < 3 || fan > 13 {
-            return Err(Refusal::BadFan);
-        }
+        let fan = Fan::try_from(fan)?;
         if self.memory.length() < 32 {
             return Err(Refusal::TooSmall);
         }
         clear(&mut self.memory);
-        self.fan = fan as u8;
+        self.fan = Some(fan);
         self.count = 1;
         self.seats = [idle(); 8];
         Ok(Report::GoneOn(0))
@@ -103,18 +111,11 @@ impl<M: Memory, O: Order> Index<M, O> {
         ensures rule { (result, view M.Memory O.Order self.new) ≡ begin_rule (view M.Memory O.Order self.old) seat key operation }
         ensures outside { M.outside self.new.memory ≡ M.outside self.old.memory }
     {
-        self.may_begin(seat, key, operation)?;
-        let lent = &mut self.seats[seat as usize];
-        start_out(lent, key, operation);
-        Ok(Report::GoneOn(0))
-    }
-
-    /// Whether a seat may start out, or why not.
-    fn may_begin(&self, seat: u64, key: u64, operation: Operation) -> Result<(), Refusal>
-        ensures seated { OnOk result (seat < 8) }
-        ensures rule { MatchResult result (λ _. begin_rule (view M.Memory O.Order self.now) seat key operation ≡ (Ok (GoneOn 0), with_seat (view M.Memory O.Order self.now) seat (starting_out (seat_at self.now.seats seat) key operation))) (λ f. begin_rule (view M.Memory O.Order self.now) seat key operation ≡ (Err f, view M.Memory O.Order self.now)) }
-    {
-        let Phase::Idle = self.seats[self.place(seat)?].phase else {
+        if self.fan.is_none() {
+            return Err(Refusal::Unformatted);
+        }
+        let lent = &mut self.seats[place(seat)?];
+        let Phase::Idle = lent.phase else {
             return Err(Refusal::Busy);
         };
         let top = self.memory.top_word();
@@ -124,7 +125,8 @@ impl<M: Memory, O: Order> Index<M, O> {
         if !self.order.is_key(key) {
             return Err(Refusal::NoKey);
         }
-        Ok(())
+        start_out(lent, key, operation);
+        Ok(Report::GoneOn(0))
     }
 
     /// Makes the next step of a seat, with at most one access to the memory.
@@ -143,41 +145,21 @@ impl<M: Memory, O: Order> Index<M, O> {
         ensures rule { (result, view M.Memory O.Order self.new) ≡ step_rule (view M.Memory O.Order self.old) seat }
         ensures outside { M.outside self.new.memory ≡ M.outside self.old.memory }
     {
-        let access = self.due(seat)?;
+        let Some(fan) = self.fan else {
+            return Err(Refusal::Unformatted);
+        };
+        let at = place(seat)?;
+        let access = access(&self.seats[at], &self.memory, fan.entries)?;
         let word = perform(&mut self.memory, access)?;
-        let lent = &mut self.seats[seat as usize];
+        let lent = &mut self.seats[at];
         Ok(go_on(
             lent,
             word,
             &self.memory,
             &self.order,
-            self.fan,
+            fan.entries,
             &mut self.count,
         ))
-    }
-
-    /// The access of a seat's next step, if it makes one, or why the step is refused.
-    fn due(&self, seat: u64) -> Result<Option<Access>, Refusal>
-        ensures { MatchResult result (λ a. due_rule (view M.Memory O.Order self.now) seat ≡ Ok a) (λ f. step_rule (view M.Memory O.Order self.now) seat ≡ (Err f, view M.Memory O.Order self.now)) }
-    {
-        let lent = &self.seats[self.place(seat)?];
-        match lent.phase {
-            Phase::Idle => Err(Refusal::Idle),
-            _ => Ok(access(lent, extent(&self.memory, self.fan))?),
-        }
-    }
-
-    /// Where a seat stands in the table, if the index is formatted and has the seat.
-    fn place(&self, seat: u64) -> Result<usize, Refusal>
-        ensures { result ≡ placed (view M.Memory O.Order self.now) seat }
-    {
-        if self.fan == 0 {
-            return Err(Refusal::Unformatted);
-        }
-        if seat >= 8 {
-            return Err(Refusal::NoSeat);
-        }
-        Ok(seat as usize)
     }
 
     /// Frees a seat that holds no latch.
@@ -196,18 +178,13 @@ impl<M: Memory, O: Order> Index<M, O> {
         ensures rule { (result, view M.Memory O.Order self.new) ≡ abandon_rule (view M.Memory O.Order self.old) seat }
         ensures outside { M.outside self.new.memory ≡ M.outside self.old.memory }
     {
-        let report = self.may_abandon(seat)?;
-        let lent = &mut self.seats[seat as usize];
+        if self.fan.is_none() {
+            return Err(Refusal::Unformatted);
+        }
+        let lent = &mut self.seats[place(seat)?];
+        let report = abandon_report(lent)?;
         lent.phase = Phase::Idle;
         Ok(report)
-    }
-
-    /// What a seat that is abandoned reports, or why it may not be.
-    fn may_abandon(&self, seat: u64) -> Result<Report, Refusal>
-        ensures seated { OnOk result (seat < 8) }
-        ensures rule { abandon_rule (view M.Memory O.Order self.now) seat ≡ abandoned (view M.Memory O.Order self.now) seat result }
-    {
-        abandon_report(&self.seats[self.place(seat)?])
     }
 }
 

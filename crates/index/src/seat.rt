@@ -1,13 +1,14 @@
 //! How a seat goes on from the word that its access gave.
-ghost use Rattle.std.specs.Prelude.{◌≡◌, ◌+◌, ◌/◌, ◌<◌, length, if◌then◌else◌, nat_eq, slice_set};
+ghost use Rattle.std.specs.Prelude.{◌≡◌, ◌+◌, ◌<◌, if◌then◌else◌, nat_eq, slice_set};
 ghost use Rattle.rules.specs.Calls.{abandon_answer, value_of as value_rule};
 ghost use Rattle.rules.specs.Nodes.{level};
 ghost use Rattle.rules.specs.Seats.{idle as idle_seat, in_phase, starting_out, with_word, with_draft};
-ghost use Rattle.rules.specs.Steps.{advance, version_in, draft_of, splits, takes, releases, part_next, stopped as stopped_rule};
+ghost use Rattle.rules.specs.Steps.{advance, version_in, draft_of, splits, takes, releases, copy_next, part_next, fill_next, stopped as stopped_rule};
 ghost use Rattle.rules.specs.declared.report.Outcome.TheVariants.{Full, Worn};
 ghost use Rattle.rules.specs.declared.report.Report.TheVariants.{GoneOn, TurnedBack, Published, Posted, Unchanged, Ended};
 ghost use Rattle.rules.specs.declared.seat.Part.TheVariants.{Own};
-ghost use Rattle.rules.specs.declared.seat.Phase.TheVariants.{Idle, Look, Copy, Check, Take, Fill, End};
+ghost use Rattle.rules.specs.declared.seat.Phase.TheVariants.{Idle, Look, Copy, Take, Fill, End};
+ghost use Rattle.index.specs.Extents.{extent_over};
 ghost use Rattle.node.specs.Courses.{followed};
 ghost use Rattle.node.specs.Drafts.{freed_by};
 
@@ -37,7 +38,7 @@ pub fn idle() -> Seat
             edge: 0,
             left_len: 0,
             len: 0,
-            entries: [Entry { key: 0, value: 0 }; 14],
+            entries: [Entry::default(); 14],
         },
     }
 }
@@ -92,17 +93,6 @@ pub fn look(seat: &mut Seat, word: u64) -> Report
     Report::GoneOn(seat.node)
 }
 
-/// After the copy of a word that is not the last.
-pub(crate) fn copy(seat: &mut Seat, at: u8, word: u64) -> Report
-    requires { at < 31 }
-    ensures after { seat.new ≡ with_word seat.old at word (Copy (at + 1)) }
-    ensures report { result ≡ GoneOn seat.old.node }
-{
-    seat.copy[at as usize] = word;
-    seat.phase = Phase::Copy { next: at + 1 };
-    Report::GoneOn(seat.node)
-}
-
 /// Keeps a word of a copy; one past its end is let go.
 fn keep(copy: &mut [u64; 32], at: u8, word: u64)
     ensures { copy.new ≡ slice_set copy.old at word }
@@ -112,13 +102,19 @@ fn keep(copy: &mut [u64; 32], at: u8, word: u64)
     }
 }
 
-/// After the copy of the last word.
-pub fn copy_last(seat: &mut Seat, at: u8, word: u64) -> Report
-    ensures after { seat.new ≡ with_word seat.old at word Check }
+/// After the copy of a word: on to the next one, or to the check after the last.
+pub fn copy(seat: &mut Seat, at: u8, word: u64) -> Report
+    ensures after { seat.new ≡ with_word seat.old at word (copy_next at) }
     ensures report { result ≡ GoneOn seat.old.node }
 {
-    keep(&mut seat.copy, at, word);
-    seat.phase = Phase::Check;
+    // asked in this order, the copy of a word before the last costs one question
+    if at < 31 {
+        seat.copy[at as usize] = word;
+        seat.phase = Phase::Copy { next: at + 1 };
+    } else {
+        keep(&mut seat.copy, at, word);
+        seat.phase = Phase::Check;
+    }
     Report::GoneOn(seat.node)
 }
 
@@ -146,13 +142,12 @@ pub fn follow(seat: &mut Seat, course: Course) -> Report
             seat.phase = Phase::Latch;
             Report::GoneOn(node)
         }
-        Course::Found(value) => {
+        Course::Answer(found) => {
             seat.phase = Phase::Idle;
-            Report::Found { node, value }
-        }
-        Course::Absent => {
-            seat.phase = Phase::Idle;
-            Report::Absent(node)
+            match found {
+                Some(value) => Report::Found { node, value },
+                None => Report::Absent(node),
+            }
         }
     }
 }
@@ -195,52 +190,38 @@ pub fn hold<O: Order>(seat: &mut Seat, order: &O, fan: u8, freeing: u64)
 pub fn take(seat: &mut Seat, extent: Extent, count: &mut u64)
     ensures { (seat.new, count.new, GoneOn seat.old.node) ≡ takes extent seat.old count.old }
 {
-    let node = seat.node;
     let first = *count;
-    let needed = if node == 0 { 2 } else { 1 };
-    match first.checked_add(needed) {
-        Some(next) if next <= extent.nodes => {
-            if node != 0 {
-                *count = next;
-                seat.draft.left = node;
-                seat.draft.right = first;
-                seat.phase = Phase::Fill {
-                    part: Part::Right,
-                    next: 0,
-                };
-            } else if seat.draft.level < extent.top {
-                *count = next;
-                seat.draft.level += 1;
-                seat.draft.left = first;
-                seat.draft.right = next - 1;
-                seat.phase = Phase::Fill {
-                    part: Part::Left,
-                    next: 0,
-                };
-            } else {
-                seat.phase = Phase::Undo;
-            }
-        }
-        _ => seat.phase = Phase::Undo,
+    let is_root = seat.node == 0;
+    let needed = if is_root { 2 } else { 1 };
+    let has_room = needed <= extent.nodes.saturating_sub(first);
+    if !has_room || (is_root && seat.draft.level >= extent.top) {
+        seat.phase = Phase::Undo;
+        return;
+    }
+    *count = first + needed;
+    if is_root {
+        seat.draft.level += 1;
+        seat.draft.left = first;
+        seat.draft.right = first + 1;
+        seat.phase = Phase::Fill {
+            part: Part::Left,
+            next: 0,
+        };
+    } else {
+        seat.draft.left = seat.node;
+        seat.draft.right = first;
+        seat.phase = Phase::Fill {
+            part: Part::Right,
+            next: 0,
+        };
     }
 }
 
-/// After the fill of a word that is not the last.
-pub(crate) fn fill(seat: &mut Seat, part: Part, at: u8) -> Report
-    requires { at < 31 }
-    ensures after { seat.new ≡ in_phase seat.old (Fill part (at + 1)) }
-    ensures report { result ≡ GoneOn seat.old.node }
+/// What follows the last word of a part: the taken nodes come first, and the latched one keeps its lock word.
+fn after_part(part: Part) -> Phase
+    ensures { result ≡ part_next part }
 {
-    seat.phase = Phase::Fill { part, next: at + 1 };
-    Report::GoneOn(seat.node)
-}
-
-/// After the fill of a part.
-pub fn fill_last(seat: &mut Seat, part: Part) -> Report
-    ensures after { seat.new ≡ in_phase seat.old (part_next part) }
-    ensures report { result ≡ GoneOn seat.old.node }
-{
-    seat.phase = match part {
+    match part {
         Part::Left => Phase::Fill {
             part: Part::Right,
             next: 0,
@@ -250,6 +231,18 @@ pub fn fill_last(seat: &mut Seat, part: Part) -> Report
             next: 1,
         },
         Part::Own => Phase::Release,
+    }
+}
+
+/// After the fill of a word: on to the next one, or to what follows the part.
+pub fn fill(seat: &mut Seat, part: Part, at: u8) -> Report
+    ensures after { seat.new ≡ in_phase seat.old (fill_next part at) }
+    ensures report { result ≡ GoneOn seat.old.node }
+{
+    seat.phase = if at < 31 {
+        Phase::Fill { part, next: at + 1 }
+    } else {
+        after_part(part)
     };
     Report::GoneOn(seat.node)
 }
@@ -318,14 +311,13 @@ pub fn go_on<M: Memory, O: Order>(
     fan: u8,
     count: &mut u64,
 ) -> Report
-    ensures { (lent.new, count.new, result) ≡ advance (O.before order.now) (record { fan = fan; top = M.top memory.now; nodes = length (M.cells memory.now) / 32 }) lent.old count.old word }
+    ensures { (lent.new, count.new, result) ≡ advance (O.before order.now) (extent_over fan (M.cells memory.now) (M.top memory.now)) lent.old count.old word }
 {
     let node = lent.node;
     match (lent.phase, word) {
         (Phase::Idle, _) => Report::GoneOn(node),
         (Phase::Look, word) => look(lent, word),
-        (Phase::Copy { next }, word) if next < 31 => copy(lent, next, word),
-        (Phase::Copy { next }, word) => copy_last(lent, next, word),
+        (Phase::Copy { next }, word) => copy(lent, next, word),
         (Phase::Check, word) if word != lent.copy[0] => turn_back(lent),
         (Phase::Check, _) => follow(lent, course_of(lent, order)),
         (Phase::Latch, word) => match freeing(lent, memory.top_word()) {
@@ -340,8 +332,7 @@ pub fn go_on<M: Memory, O: Order>(
             take(lent, extent(memory, fan), count);
             Report::GoneOn(node)
         }
-        (Phase::Fill { part, next }, _) if next < 31 => fill(lent, part, next),
-        (Phase::Fill { part, .. }, _) => fill_last(lent, part),
+        (Phase::Fill { part, next }, _) => fill(lent, part, next),
         (Phase::Release, _) => {
             let report = written(lent);
             release(lent, extent(memory, fan));

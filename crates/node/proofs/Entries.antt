@@ -1,38 +1,43 @@
 -- Where a node's entries stand among its words.
-use Rattle.std.proofs.Common.{◌≡◌, ℕ, zero, suc, ◌+◌, ◌*◌, ◌<◌, ◌≤◌, List, [], ◌∷◌, length, get_or, drop, sym, refl, ◌∙◌, mul-suc, one-add, arith, length-drop, length-take, get_or-drop, get_or-take}
-use native.Mathlib.Numerals.{add-two}
-use lib.ListN.{get_or-eq_default}
+use Rattle.std.proofs.Common.{◌≡◌, ℕ, zero, suc, ◌*◌, ◌/◌, ◌≤◌, List, [], ◌∷◌, length, map, take, drop, sym, refl, ap, ◌∙◌, arith, length-drop, length-take, take_all}
+use Rattle.std.proofs.lemmas.List.{take-map, take-take}
+use Rattle.std.specs.Simd.{first_chunks}
+use Rattle.rules.specs.declared.seat.Entry.{Entry}
 use Rattle.rules.specs.Nodes.{entry, paired, entries, size}
+use Rattle.node.specs.Values.{pair}
 
-twice_suc : (i : ℕ) → 2 * suc i ≡ suc (suc (2 * i))
-twice_suc i = mul-suc 2 i ∙ add-two (2 * i)
-
-pub paired_at : (ws : List ℕ) (i : ℕ) → 1 + 2 * i < length ws → get_or (paired ws) i (entry 0 0) ≡ entry (get_or ws (2 * i) 0) (get_or ws (1 + 2 * i) 0)
-paired_at [] i h = absurd (omega arith)
-paired_at (k ∷ []) i h = absurd (omega arith)
-paired_at (k ∷ (v ∷ ws)) zero h = refl
-paired_at (k ∷ (v ∷ ws)) (suc i) h = rw (one-add, twice_suc, paired_at ws i (omega arith), one-add)
-
-pub paired_long : (ws : List ℕ) (n : ℕ) → 2 * n ≤ length ws → n ≤ length (paired ws)
+paired_long : (ws : List ℕ) (n : ℕ) → 2 * n ≤ length ws → n ≤ length (paired ws)
 paired_long ws zero h = omega arith
 paired_long [] (suc n) h = absurd (omega arith)
 paired_long (k ∷ []) (suc n) h = absurd (omega arith)
 paired_long (k ∷ (v ∷ ws)) (suc n) h = let t : n ≤ length (paired ws) = paired_long ws n (omega arith) in omega arith
 
+paired_chunks : (n : ℕ) (ws : List ℕ) → 2 * n ≤ length ws → map pair (first_chunks 2 n ws) ≡ take n (paired ws)
+paired_chunks zero ws h = refl
+paired_chunks (suc n) [] h = absurd (omega arith)
+paired_chunks (suc n) (k ∷ []) h = absurd (omega arith)
+paired_chunks (suc n) (k ∷ (v ∷ ws)) h = ap {B = List Entry} (λ t. entry k v ∷ t) (paired_chunks n ws (omega arith))
+
 module _ (ws : List ℕ) (full : length ws ≡ 32) where
+  behind : length (drop 6 ws) ≡ 26
+  behind = length-drop 6 ws ∙ omega arith
+
   pub entries_long : length (entries ws) ≡ size ws
   entries_long =
-      let d : length (drop 6 ws) ≡ 26 = length-drop 6 ws ∙ omega arith in
+      let d = behind in
       let p : 13 ≤ length (paired (drop 6 ws)) = paired_long (drop 6 ws) 13 (omega arith) in
       rw length-take (omega arith)
 
-  pub entries_at : (i : ℕ) → i < length (entries ws) → entry (get_or ws (6 + 2 * i) 0) (get_or ws (7 + 2 * i) 0) ≡ get_or (entries ws) i (entry 0 0)
-  entries_at i h =
-      let d : length (drop 6 ws) ≡ 26 = length-drop 6 ws ∙ omega arith in
-      let n = entries_long in
-      let b : 1 + 2 * i < length (drop 6 ws) = omega arith in
-      let s : 6 + (1 + 2 * i) ≡ 7 + 2 * i = omega arith in
-      sym (get_or-take (size ws) (paired (drop 6 ws)) i (entry 0 0) (omega arith) ∙ (paired_at (drop 6 ws) i b ∙ simp (get_or-drop, s)))
+  chunks_are : map pair (first_chunks 2 (length (drop 6 ws) / 2) (drop 6 ws)) ≡ take 13 (paired (drop 6 ws))
+  chunks_are =
+      let k : length (drop 6 ws) / 2 ≡ 13 = rw behind in
+      rw k (paired_chunks 13 (drop 6 ws) (rw behind (omega arith)))
 
-  pub entries_past : (i : ℕ) → length (entries ws) ≤ i → (entry 0 0) ≡ get_or (entries ws) i (entry 0 0)
-  entries_past i h = sym (get_or-eq_default (entries ws) (entry 0 0) h)
+  -- the words from the sixth on as pairs, as many as there are entries
+  pub pairs_are : (s : List ℕ) (xs : List (List ℕ)) (n : ℕ) → s ≡ take 26 (drop 6 ws) → xs ≡ first_chunks 2 (length s / 2) s → n ≡ length (entries ws)
+      → map pair (take n xs) ≡ entries ws
+  pairs_are s xs n e c l =
+      let s_is : s ≡ drop 6 ws = e ∙ take_all 26 (drop 6 ws) (rw behind (omega arith)) in
+      let m : map pair xs ≡ take 13 (paired (drop 6 ws)) = rw (c, s_is) chunks_are in
+      let n_is : n ≡ size ws = l ∙ entries_long in
+      rw (sym (take-map pair n xs), m, n_is) (take-take (size ws) 13 (paired (drop 6 ws)) (omega arith))

@@ -2,7 +2,6 @@ pub mod Entries
 pub mod Ranks
 pub mod Finds
 pub mod Contents
-pub mod Changed
 pub mod Laying
 pub mod Drafts
 pub mod Halves

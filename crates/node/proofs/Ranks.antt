@@ -1,24 +1,31 @@
--- How a loop over a node's entries comes to a key's rank.
-use Rattle.std.proofs.Common.{◌≡◌, ℕ, ◌+◌, ◌<◌, Bool, true, false, List, length, get_or, drop, ap, ◌∙◌, add-one, arith, drop_of_length-le, drop-cons}
+-- A key's rank, as the place of the first pair whose key isn't before it.
+use Rattle.std.proofs.Common.{◌≡◌, ℕ, ◌+◌, Bool, true, false, cond, not, List, [], ◌∷◌, Option, length, get_or, map, refl, ap, ◌∙◌, inl, inr, arith}
+use Rattle.std.proofs.lemmas.Bool.{cases_lt, le-ltb, lt-ltb}
+use Rattle.std.proofs.lemmas.List.Sums.{prefix_len-le-length}
+use Rattle.std.specs.List.{position, position_or_len}
+use Rattle.std.specs.Option.{unwrap_or}
+use Rattle.rules.specs.Nodes.{rank}
 use Rattle.rules.specs.declared.seat.Entry.{Entry}
-use Rattle.rules.specs.Nodes.{entry, rank}
+use Rattle.node.specs.Values.{pair}
 
--- the first `i` entries are before the key
-abbrev pub Ranked : (ℕ → ℕ → Bool) → ℕ → List Entry → ℕ → Type 0
-Ranked before k es i = rank before k es ≡ i + rank before k (drop i es)
+module _ (before : ℕ → ℕ → Bool) (k : ℕ) where
+  -- a pair whose key isn't before `k`
+  abbrev pub stops : List ℕ → Bool
+  stops ws = not (before (get_or ws 0 0) k)
 
-module _ (before : ℕ → ℕ → Bool) (k : ℕ) (es : List Entry) (i : ℕ) (so_far : Ranked before k es i) where
-  pub ranked_more : i < length es → before (get_or es i (entry 0 0)).key k ≡ true → Ranked before k es (i + 1)
-  ranked_more h t =
-      let e : rank before k (drop i es) ≡ 1 + rank before k (drop (i + 1) es) = rw (drop-cons es i (entry 0 0), t, add-one) in
-      so_far ∙ omega arith
+  first_is : (xs : List (List ℕ)) → position_or_len stops xs ≡ rank before k (map pair xs)
+  first_is [] = refl
+  first_is (x ∷ xs) = elim (before (get_or x 0 0) k) as (λ b. cond (not (not b)) (1 + position_or_len stops xs) 0 ≡ cond b (1 + rank before k (map pair xs)) 0)
+      [ true ↦ ap (λ (n : ℕ). 1 + n) (first_is xs) | false ↦ refl ]
 
-  pub ranked_stop : i < length es → before (get_or es i (entry 0 0)).key k ≡ false → i ≡ rank before k es
-  ranked_stop h t =
-      let e : rank before k (drop i es) ≡ 0 = rw (drop-cons es i (entry 0 0), t) in
-      omega arith
+  rank_is : (xs : List (List ℕ)) → unwrap_or (position stops xs) (length xs) ≡ rank before k (map pair xs)
+  rank_is xs =
+      let le = prefix_len-le-length (λ x. not (stops x)) xs in
+      elim (cases_lt (position_or_len stops xs) (length xs)) [
+        | inl h ↦ rw (lt-ltb _ _ h) (first_is xs)
+        | inr h ↦ (let e : length xs ≡ position_or_len stops xs = omega (arith, le, h) in rw (le-ltb _ _ h) (e ∙ first_is xs))
+      ]
 
-  pub ranked_end : i ≡ length es → i ≡ rank before k es
-  ranked_end h =
-      let e : rank before k (drop i es) ≡ 0 = ap (rank before k) (drop_of_length-le es (omega arith)) in
-      omega arith
+  pub ranked : (xs : List (List ℕ)) (es : List Entry) (at : Option ℕ) (n r : ℕ) → at ≡ position stops xs → n ≡ length xs → r ≡ unwrap_or at n → map pair xs ≡ es
+      → r ≡ rank before k es
+  ranked xs es at n r p l u e = u ∙ rw (p, l) (rank_is xs) ∙ ap (rank before k) e

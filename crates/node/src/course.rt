@@ -3,7 +3,7 @@ ghost use Rattle.std.specs.Prelude.{◌≡◌};
 ghost use Rattle.rules.specs.Steps.{accepts};
 ghost use Rattle.node.specs.Courses.{followed};
 
-use super::copy::{child, covers, find};
+use super::Node;
 use order::Order;
 use rules::{Operation, Seat};
 
@@ -14,10 +14,8 @@ pub enum Course {
     To(u64),
     /// Latches the node that it is at.
     Latch,
-    /// Ends its find: the key has this value.
-    Found(u64),
-    /// Ends its find: the key is absent.
-    Absent,
+    /// Ends its find: the key has this value, or is absent.
+    Answer(Option<u64>),
 }
 
 /// The course of a seat whose copy is accepted: to the link of a node that does not cover the key, to the child of
@@ -25,17 +23,15 @@ pub enum Course {
 pub fn course_of<O: Order>(seat: &Seat, order: &O) -> Course
     ensures { accepts (O.before order.now) seat.now ≡ followed seat.now result }
 {
-    if !covers(&seat.copy, order, seat.key) {
-        return Course::To(seat.copy[3]);
+    let node = Node::of(&seat.copy);
+    if !node.covers(order, seat.key) {
+        return Course::To(node.link());
     }
-    if seat.aim < seat.copy[1] {
-        return Course::To(child(&seat.copy, order, seat.key));
+    if seat.aim < node.level() {
+        return Course::To(node.child(order, seat.key));
     }
     match seat.operation {
-        Operation::Find => match find(&seat.copy, order, seat.key) {
-            Some(value) => Course::Found(value),
-            None => Course::Absent,
-        },
+        Operation::Find => Course::Answer(node.find(order, seat.key)),
         Operation::Put { .. } | Operation::Post { .. } => Course::Latch,
     }
 }

@@ -1,38 +1,76 @@
 //! The draft of an update.
-ghost use Rattle.std.specs.Prelude.{◌≡◌, ◌≤◌, length, take, slice_index_or};
+ghost use Rattle.std.specs.Prelude.{◌≡◌, ◌+◌, ◌≤◌, map, length, take, IfSome, slice_index_or};
+ghost use Rattle.std.specs.List.{insert as insert_at};
 ghost use Rattle.rules.specs.Nodes.{entry as entry_of, entries as entries_of};
 ghost use Rattle.rules.specs.Seats.{laid, with_draft};
 ghost use Rattle.rules.specs.Steps.{draft_of, left_count};
 ghost use Rattle.node.specs.Changes.{changed, Within};
 ghost use Rattle.node.specs.Drafts.{freed_by};
+ghost use Rattle.node.specs.Values.{pair};
 
-use super::change::{Change, change_of, entry_after, len_after, outcome_of};
+use super::Node;
+use super::change::{Change, change_of, outcome_of};
 use order::Order;
 use rules::{Entry, Seat};
 
-/// Lays the entries of a changed node over the front of others, and tells how many they are.
-fn lay(entries: &mut [Entry; 14], copy: &[u64; 32], change: Change) -> usize
-    requires { Within change (entries_of copy.now) }
-    ensures count { result ≡ length (changed change (entries_of copy.now)) }
-    ensures few { result ≤ 14 }
-    ensures after { entries.new ≡ laid (changed change (entries_of copy.now)) entries.old }
+/// Lays entries over the front of others.
+fn lay(entries: &mut [Entry], pairs: &[[u64; 2]])
+    requires { length pairs.now ≤ length entries.old }
+    ensures { entries.new ≡ laid (map pair pairs.now) entries.old }
 {
-    let len = len_after(copy, change);
-    for i in 0..len {
-        entries[i] = entry_after(copy, change, i);
+    for (i, &[key, value]) in pairs.iter().enumerate() {
+        entries[i] = Entry { key, value };
     }
-    len
+}
+
+/// Lays entries over the front of others, with a new one before the one at `at`: how many they are then.
+fn spread(entries: &mut [Entry], pairs: &[[u64; 2]], at: usize, new: Entry) -> usize
+    requires at { at ≤ length pairs.now }
+    requires room { length pairs.now + 1 ≤ length entries.old }
+    ensures count { result ≡ length pairs.now + 1 }
+    ensures after { entries.new ≡ laid (insert_at (map pair pairs.now) at new) entries.old }
+{
+    lay(entries, &pairs[..at]);
+    entries[at] = new;
+    lay(&mut entries[at + 1..], &pairs[at..]);
+    pairs.len() + 1
+}
+
+/// Lays the entries of a changed node over the front of others: how many they are.
+fn lay_changed(entries: &mut [Entry; 14], node: &Node<'_>, change: Option<Change>) -> usize
+    requires { IfSome change (λ c. Within c (entries_of node.now.words.now)) }
+    ensures count { result ≡ length (changed change (entries_of node.now.words.now)) }
+    ensures few { result ≤ 14 }
+    ensures after { entries.new ≡ laid (changed change (entries_of node.now.words.now)) entries.old }
+{
+    let pairs = node.pairs();
+    let Some(change) = change else {
+        lay(entries, pairs);
+        return pairs.len();
+    };
+    match change {
+        Change::Replace { at, new } => {
+            lay(entries, pairs);
+            entries[at] = new;
+            pairs.len()
+        }
+        Change::Insert { at, new } => spread(entries, pairs, at, new),
+        Change::Divide { at, edge, child } => {
+            let Entry { key, value } = node.entry(at);
+            let len = spread(entries, pairs, at, Entry { key: edge, value });
+            entries[at + 1] = Entry { key, value: child };
+            len
+        }
+    }
 }
 
 /// The key at `i` of the first `len` entries; 0 past them.
 fn key_at(entries: &[Entry; 14], len: usize, i: usize) -> u64
     ensures { result ≡ (slice_index_or (take len entries.now) i (entry_of 0 0)).key }
 {
-    let entries: &[Entry] = entries;
-    if i < len && i < entries.len() {
-        entries[i].key
-    } else {
-        0
+    match entries.get(i) {
+        Some(entry) if i < len => entry.key,
+        _ => 0,
     }
 }
 
@@ -48,11 +86,12 @@ pub fn draft_update<O: Order>(seat: &mut Seat, order: &O, fan: u8, freeing: u64)
     ensures { seat.new ≡ with_draft seat.old (freed_by freeing (draft_of (O.before order.now) fan seat.old)) seat.old.phase }
 {
     let change = change_of(seat, order);
-    let len = lay(&mut seat.draft.entries, &seat.copy, change);
+    let node = Node::of(&seat.copy);
+    let len = lay_changed(&mut seat.draft.entries, &node, change);
     let left_len = left_len(fan);
     seat.draft.freeing = freeing;
-    seat.draft.level = seat.copy[1];
-    seat.draft.outcome = outcome_of(&seat.copy, change);
+    seat.draft.level = node.level();
+    seat.draft.outcome = outcome_of(&node, change);
     seat.draft.left = 0;
     seat.draft.right = 0;
     seat.draft.edge = key_at(&seat.draft.entries, len, left_len as usize - 1);

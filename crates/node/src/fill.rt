@@ -1,31 +1,38 @@
 //! The words that an update writes.
-ghost use Rattle.std.specs.Prelude.{◌≡◌, [], ◌∷◌};
-ghost use Rattle.rules.specs.Nodes.{entry as entry_of, node_word};
+ghost use Rattle.std.specs.Prelude.{◌≡◌, cond, [], ◌∷◌};
+ghost use Rattle.rules.specs.Nodes.{entry as entry_of, level, link, high, node_word};
 ghost use Rattle.rules.specs.Seats.{drafted as drafted_rule, left_entries as left_rule, right_entries as right_rule};
-ghost use Rattle.rules.specs.Steps.{part_node, own_word as own_rule, fill_word as fill_rule};
+ghost use Rattle.rules.specs.Steps.{is_root, part_node, own_word as own_rule, fill_word as fill_rule};
 
+use super::Node;
 use rules::{Draft, Entry, Part, Seat};
 
-/// A word of a node with these entries.
-fn node_word(level: u64, link: u64, high: u64, entries: &[Entry], word: u8) -> u64
-    ensures { result ≡ node_word level link high entries.now word }
-{
-    if word < 6 {
-        return match word {
-            1 => level,
-            2 => entries.len() as u64,
-            3 => link,
-            4 => high,
-            _ => 0,
-        };
-    }
-    let i = usize::from(word - 6) / 2;
-    if i >= entries.len() {
-        0
-    } else if word % 2 == 0 {
-        entries[i].key
-    } else {
-        entries[i].value
+/// A node as it will be written.
+#[derive(Clone, Copy)]
+struct Content<'a> {
+    level: u64,
+    link: u64,
+    high: u64,
+    entries: &'a [Entry],
+}
+
+impl Content<'_> {
+    /// A word of the node; the words of unused entries are 0.
+    fn word(&self, word: u8) -> u64
+        ensures { result ≡ node_word self.now.level self.now.link self.now.high self.now.entries.now word }
+    {
+        match word {
+            1 => self.level,
+            2 => self.entries.len() as u64,
+            3 => self.link,
+            4 => self.high,
+            0 | 5 => 0,
+            6.. => match self.entries.get(usize::from(word - 6) / 2) {
+                None => 0,
+                Some(entry) if word % 2 == 0 => entry.key,
+                Some(entry) => entry.value,
+            },
+        }
     }
 }
 
@@ -34,8 +41,7 @@ fn drafted(draft: &Draft) -> &[Entry]
     ensures { result.now ≡ drafted_rule draft.now }
 {
     let entries: &[Entry] = &draft.entries;
-    let len = usize::from(draft.len).min(entries.len());
-    &entries[0..len]
+    &entries[..usize::from(draft.len).min(entries.len())]
 }
 
 /// Those of them that go left in a split.
@@ -43,8 +49,7 @@ fn left_entries(draft: &Draft) -> &[Entry]
     ensures { result.now ≡ left_rule draft.now }
 {
     let entries = drafted(draft);
-    let left = usize::from(draft.left_len).min(entries.len());
-    &entries[0..left]
+    &entries[..usize::from(draft.left_len).min(entries.len())]
 }
 
 /// Those of them that go right in a split.
@@ -52,8 +57,7 @@ fn right_entries(draft: &Draft) -> &[Entry]
     ensures { result.now ≡ right_rule draft.now }
 {
     let entries = drafted(draft);
-    let left = usize::from(draft.left_len).min(entries.len());
-    &entries[left..]
+    &entries[usize::from(draft.left_len).min(entries.len())..]
 }
 
 /// A word of the root above the two nodes of its split.
@@ -68,7 +72,25 @@ fn risen_word(draft: &Draft, word: u8) -> u64
         key: 0,
         value: draft.right,
     };
-    node_word(draft.level, 0, 0, &[left, right], word)
+    let root = Content {
+        level: draft.level,
+        link: 0,
+        high: 0,
+        entries: &[left, right],
+    };
+    root.word(word)
+}
+
+/// The left node of a split, at this level.
+fn left_part(draft: &Draft, level: u64) -> Content<'_>
+    ensures { (result.level ≡ level) × (result.link ≡ draft.now.right) × (result.high ≡ draft.now.edge) × (result.entries.now ≡ left_rule draft.now) }
+{
+    Content {
+        level,
+        link: draft.right,
+        high: draft.edge,
+        entries: left_entries(draft),
+    }
 }
 
 /// A word of the latched node.
@@ -77,23 +99,35 @@ fn own_word(seat: &Seat, fan: u8, word: u8) -> u64
 {
     let draft = &seat.draft;
     if draft.len <= fan {
-        node_word(
-            draft.level,
-            seat.copy[3],
-            seat.copy[4],
-            drafted(draft),
-            word,
-        )
+        let node = Node::of(&seat.copy);
+        let whole = Content {
+            level: draft.level,
+            link: node.link(),
+            high: node.high(),
+            entries: drafted(draft),
+        };
+        whole.word(word)
     } else if seat.node == 0 {
         risen_word(draft, word)
     } else {
-        node_word(
-            draft.level,
-            draft.right,
-            draft.edge,
-            left_entries(draft),
-            word,
-        )
+        left_part(draft, draft.level).word(word)
+    }
+}
+
+/// The right node of a split. It gets the link and the high key that the node had, which are 0 in the root.
+fn right_part(seat: &Seat) -> Content<'_>
+    ensures { (result.level ≡ level seat.now.copy) × (result.link ≡ cond (is_root seat.now) 0 (link seat.now.copy)) × (result.high ≡ cond (is_root seat.now) 0 (high seat.now.copy)) × (result.entries.now ≡ right_rule seat.now.draft) }
+{
+    let node = Node::of(&seat.copy);
+    let (link, high) = match seat.node {
+        0 => (0, 0),
+        _ => (node.link(), node.high()),
+    };
+    Content {
+        level: node.level(),
+        link,
+        high,
+        entries: right_entries(&seat.draft),
     }
 }
 
@@ -102,23 +136,12 @@ pub fn fill_word(seat: &Seat, fan: u8, part: Part, word: u8) -> (u64, u64)
     ensures { result ≡ (part_node part seat.now, fill_rule fan seat.now part word) }
 {
     let draft = &seat.draft;
-    let level = seat.copy[1];
     match part {
-        Part::Left => (
-            draft.left,
-            node_word(level, draft.right, draft.edge, left_entries(draft), word),
-        ),
-        Part::Right => {
-            let (link, high) = if seat.node == 0 {
-                (0, 0)
-            } else {
-                (seat.copy[3], seat.copy[4])
-            };
-            (
-                draft.right,
-                node_word(level, link, high, right_entries(draft), word),
-            )
+        Part::Left => {
+            let level = Node::of(&seat.copy).level();
+            (draft.left, left_part(draft, level).word(word))
         }
+        Part::Right => (draft.right, right_part(seat).word(word)),
         Part::Own => (seat.node, own_word(seat, fan, word)),
     }
 }

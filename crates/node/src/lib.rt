@@ -3,12 +3,12 @@
 //! with the words to write.
 
 mod change;
-mod copy;
 mod course;
 mod draft;
 mod fill;
+mod node;
 
-pub use copy::{child, covers, entry, find, len, rank};
 pub use course::{Course, course_of};
 pub use draft::draft_update;
 pub use fill::fill_word;
+pub use node::Node;

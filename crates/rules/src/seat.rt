@@ -2,7 +2,7 @@
 use super::report::Outcome;
 
 /// A key with its value in a leaf, or with its child in an inner node.
-#[derive(Clone, Copy)]
+#[derive(Clone, Copy, Default)]
 pub struct Entry {
     pub key: u64,
     pub value: u64,

@@ -1,8 +1,7 @@
-use Rattle.std.proofs.Common.{◌≡◌}
-use Rattle.rules.specs.Nodes.{entries}
-use Rattle.node.specs.Changes.{changed}
+use Rattle.std.proofs.Common.{◌≡◌, map}
+use Rattle.node.specs.Values.{pair}
 use Rattle.node.proofs.Laying.{laid_so_far}
 use Rattle.node.proofs.draft.lay.Given as goal
 
 abbrev pub invariant-loop-i : goal.invariant-loop-i
-invariant-loop-i l = l.entries ≡ laid_so_far l.i (changed l.change (entries l.copy)) l.initial.entries
+invariant-loop-i l = l.entries ≡ laid_so_far l.i (map pair l.pairs) l.initial.entries

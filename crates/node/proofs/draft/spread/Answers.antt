@@ -1,0 +1,6 @@
+use Rattle.node.proofs.Laying.{spread_is}
+use Rattle.node.proofs.draft.spread.Goals as goal
+
+pub returns-clause-after : goal.returns-clause-after
+returns-clause-after c =
+    spread_is c.args.pairs.now c.args.entries.now c.lay.new.entries c.lay-2.new.entries c.args.at c.args.new c.requires.at c.requires.room c.lay.ensures c.lay-2.ensures
