@@ -23,6 +23,7 @@ impl Record {
     pub fn kind(self) -> u64
         ensures { result ≡ kind_of self }
     {
+        // the cases have fields, so their numbers are no discriminants
         match self {
             Record::Find { .. } => 1,
             Record::Put { .. } => 2,

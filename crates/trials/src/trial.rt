@@ -69,6 +69,7 @@ impl<M: Memory, O: Order> Trial<M, O> {
         }
     }
 
+    /// The three draws of a round.
     fn draw(&mut self) -> Draw {
         let a = self.random.draw();
         let k = self.random.draw();
@@ -163,6 +164,7 @@ pub(crate) fn run_trial<M: Memory + Drop, O: Order + Drop>(
         ..
     } = trial;
     let memory = index.into_memory();
+    // a memory gives its words by the numbers of cells alone
     for cell in 0..memory.length() {
         tally.note_cell(memory.read(cell).unwrap_or(0));
     }
