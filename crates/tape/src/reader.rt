@@ -70,7 +70,7 @@ fn record_of(kind: u16, len: u16, bytes: &[u8]) -> Result<Record, TapeFault>
 }
 
 /// Reads the record that the bytes begin with. Answers the record, and the bytes after it.
-#[tactic(auto, using(crate::proofs::Reading::value_two))]
+#[tactic(auto, using(crate::proofs::Reading::value_two, crate::proofs::Reading::not_cut, std::proofs::lemmas::List::take_rest))]
 pub fn read_record(bytes: &[u8]) -> Result<(Record, &[u8]), TapeFault>
     ensures { MatchResult result (λ p. (next_record bytes.now ≡ Ok p.0) × (p.1.now ≡ drop (span bytes.now) bytes.now)) (λ f. next_record bytes.now ≡ Err f) }
 {
