@@ -112,7 +112,3 @@ module _ (bytes : List ℕ) (st next : State) (lines : List Line) (l : lines ≡
         both.0 ∙ ap (λ t. (carried_out rs st).lines ++ (play_tape t (carried_out rs st).state).lines) t,
         both.1 ∙ ap (λ t. (play_tape t (carried_out rs st).state).state) t,
       )
-
-pub made_both : {X Y : Type 0} (r : Result X Y) (P Q R : X → Type 0) → ((x : X) → P x → Q x → R x) → IfOk r P → IfOk r Q → IfOk r R
-made_both (Ok x) P Q R f p q = f x p q
-made_both (Err y) P Q R f p q = tt

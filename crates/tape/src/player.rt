@@ -125,6 +125,7 @@ fn play_bytes<M: Memory, O: Order>(
 
 /// Plays a tape on an index: carries its records out one after the other, and answers a line for each, and one for a
 /// fault. A want of memory leaves the index as it was.
+#[tactic(auto, using(crate::proofs::Leading::leads_on, crate::proofs::Leading::stays_lawful, crate::proofs::Parts::in_parts, crate::proofs::Parts::fault_keeps, crate::proofs::Parts::long_keeps))]
 pub fn play<M: Memory, O: Order>(
     heap: Global,
     index: &mut Index<M, O>,
