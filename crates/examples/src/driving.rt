@@ -3,56 +3,65 @@
 use index::Index;
 use memory::Memory;
 use order::Order;
-use rules::{Refusal, Report};
-
-/// The number, node and word of an answer; a refusal has node and word 0.
-pub(crate) fn told(answer: Result<Report, Refusal>) -> (u64, u64, u64) {
-    match answer {
-        Ok(report) => (report.number(), report.node(), report.word()),
-        Err(refusal) => (refusal.number(), 0, 0),
-    }
-}
+use rules::{Refusal, Report, Told};
 
 /// The number of an answer.
 pub(crate) fn number(answer: Result<Report, Refusal>) -> u64 {
-    let (number, _, _) = told(answer);
-    number
+    Told::from(answer).number
 }
 
-/// Steps a seat, at most `most` times, until its operation ends or a step is refused: the last answer's number and
-/// word, and how many steps were made.
-pub(crate) fn walk<M: Memory, O: Order>(
-    index: &mut Index<M, O>,
-    seat: u64,
-    most: u64,
-) -> (u64, u64, u64) {
-    let mut last = (0, 0);
-    for made in 0..most {
-        let (number, _, word) = told(index.step(seat));
-        last = (number, word);
-        if number >= 6 {
-            return (number, word, made + 1);
+/// How a seat was stepped: the last answer's number and word, and how many steps were made.
+#[derive(Clone, Copy, PartialEq, Eq, Debug)]
+pub(crate) struct Walked {
+    pub number: u64,
+    pub word: u64,
+    pub steps: u64,
+}
+
+impl Walked {
+    pub(crate) fn new(number: u64, word: u64, steps: u64) -> Walked {
+        Walked {
+            number,
+            word,
+            steps,
         }
     }
-    (last.0, last.1, most)
 }
 
-/// Puts a pair from seat 0 to its end: the last answer's number and word, and the steps. A refused begin has no steps.
-pub(crate) fn put<M: Memory, O: Order>(
+/// Steps a seat, at most `most` times, until its operation ends or a step is refused.
+pub(crate) fn walk<M: Memory, O: Order>(index: &mut Index<M, O>, seat: u64, most: u64) -> Walked {
+    let mut last = Told::default();
+    for made in 0..most {
+        let answer = index.step(seat);
+        last = Told::from(answer);
+        match answer {
+            Ok(report) if !report.ends() => {}
+            _ => return Walked::new(last.number, last.word, made + 1),
+        }
+    }
+    Walked::new(last.number, last.word, most)
+}
+
+/// Steps a seat to the end of what it began. A refused begin has no steps.
+fn finish<M: Memory, O: Order>(
     index: &mut Index<M, O>,
-    key: u64,
-    value: u64,
-) -> (u64, u64, u64) {
-    match index.begin_put(0, key, value) {
-        Ok(_) => walk(index, 0, 1000),
-        Err(refusal) => (refusal.number(), 0, 0),
+    seat: u64,
+    begun: Result<Report, Refusal>,
+) -> Walked {
+    match begun {
+        Ok(_) => walk(index, seat, 1000),
+        Err(refusal) => Walked::new(refusal.number(), 0, 0),
     }
 }
 
-/// Finds a key from seat 1 to its end, likewise.
-pub(crate) fn find<M: Memory, O: Order>(index: &mut Index<M, O>, key: u64) -> (u64, u64, u64) {
-    match index.begin_find(1, key) {
-        Ok(_) => walk(index, 1, 1000),
-        Err(refusal) => (refusal.number(), 0, 0),
-    }
+/// Puts a pair from seat 0 to its end.
+pub(crate) fn put<M: Memory, O: Order>(index: &mut Index<M, O>, key: u64, value: u64) -> Walked {
+    let begun = index.begin_put(0, key, value);
+    finish(index, 0, begun)
+}
+
+/// Finds a key from seat 1 to its end.
+pub(crate) fn find<M: Memory, O: Order>(index: &mut Index<M, O>, key: u64) -> Walked {
+    let begun = index.begin_find(1, key);
+    finish(index, 1, begun)
 }

@@ -1,6 +1,6 @@
 //! Every refusal, what it leaves, and which of two is said.
 
-use super::driving::{number, walk};
+use super::driving::{Walked, number, walk};
 use index::Index;
 use memory::{ByteMemory, Memory, Width, WordMemory};
 use order::{LabelOrder, Order};
@@ -90,16 +90,16 @@ fn refuses<M: Memory, O: Order>(rt: &impl Abort, index: &mut Index<M, O>) {
 fn prepared<M: Memory, O: Order>(rt: &impl Abort, index: &mut Index<M, O>) {
     assert_eq!(rt; number(index.format(3)), 0);
     assert_eq!(rt; number(index.begin_find(1, 65)), 0);
-    assert_eq!(rt; walk(index, 1, 16), (0, 0, 16));
+    assert_eq!(rt; walk(index, 1, 16), Walked::new(0, 0, 16));
     assert_eq!(rt; number(index.begin_put(2, 65, 7)), 0);
-    assert_eq!(rt; walk(index, 2, 34), (2, 0, 34));
+    assert_eq!(rt; walk(index, 2, 34), Walked::new(2, 0, 34));
 }
 
 /// Ends what was begun: the put is stored, and the find, turned back once, finds it.
 fn ended<M: Memory, O: Order>(rt: &impl Abort, index: &mut Index<M, O>) {
-    assert_eq!(rt; walk(index, 1, 17), (1, 0, 17));
-    assert_eq!(rt; walk(index, 2, 100), (8, 0, 33));
-    assert_eq!(rt; walk(index, 1, 100), (6, 7, 33));
+    assert_eq!(rt; walk(index, 1, 17), Walked::new(1, 0, 17));
+    assert_eq!(rt; walk(index, 2, 100), Walked::new(8, 0, 33));
+    assert_eq!(rt; walk(index, 1, 100), Walked::new(6, 7, 33));
 }
 
 #[test]
@@ -115,12 +115,9 @@ fn after_format_with_nothing_lost(rt: HostRuntime) {
     refuses(&rt, &mut index);
     ended(&rt, &mut index);
     let bytes = index.into_memory().into_bytes();
-    assert!(rt; calm.len() == bytes.len());
-    for (first, second) in calm.iter().zip(bytes.iter()) {
-        assert_eq!(rt;
-            *first,
-            *second,
-            "the cells are those of a run with no refused call"
-        );
-    }
+    assert_eq!(rt;
+        &*calm,
+        &*bytes,
+        "the cells are those of a run with no refused call"
+    );
 }

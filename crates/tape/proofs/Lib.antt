@@ -1,5 +1,4 @@
 pub mod Reading
-pub mod Texts
 pub mod Stepping
 pub mod Playing
 pub mod Leading

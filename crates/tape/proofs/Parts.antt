@@ -1,5 +1,5 @@
 -- Records that are written on a tape are read from it, and played one after the other.
-use Rattle.std.proofs.Common.{◌≡◌, ℕ, zero, suc, ◌+◌, ◌*◌, ◌/◌, ◌%◌, ◌^◌, ◌<◌, ◌≤◌, List, [], ◌∷◌, ◌++◌, length, drop, IfOk, Ok, Err, Result, sym, refl, ap, ◌∙◌, append_assoc, div-lt_iff_lt-mul, pow-suc, arith, lit<, length-append, drop_at}
+use Rattle.std.proofs.Common.{◌≡◌, ℕ, zero, suc, ◌+◌, ◌*◌, ◌/◌, ◌%◌, ◌^◌, ◌<◌, ◌≤◌, List, [], ◌∷◌, ◌++◌, length, drop, Ok, sym, refl, ap, ◌∙◌, append_assoc, div-lt_iff_lt-mul, pow-suc, arith, lit<, length-append, drop_at}
 use native.Mathlib.Nat.{mod-add-div}
 use Rattle.std.proofs.lemmas.Bool.{cond-true, cond-false, le-ltb, lt-ltb}
 use Rattle.memory.specs.Bytes.{value}
@@ -112,7 +112,3 @@ module _ (bytes : List ℕ) (st next : State) (lines : List Line) (l : lines ≡
         both.0 ∙ ap (λ t. (carried_out rs st).lines ++ (play_tape t (carried_out rs st).state).lines) t,
         both.1 ∙ ap (λ t. (play_tape t (carried_out rs st).state).state) t,
       )
-
-pub made_both : {X Y : Type 0} (r : Result X Y) (P Q R : X → Type 0) → ((x : X) → P x → Q x → R x) → IfOk r P → IfOk r Q → IfOk r R
-made_both (Ok x) P Q R f p q = f x p q
-made_both (Err y) P Q R f p q = tt

@@ -1,7 +1,7 @@
 -- Records, carried out one after the other.
-use Rattle.std.proofs.Common.{◌≡◌, ℕ, ◌+◌, ◌-◌, ◌<◌, ◌≤◌, List, [], ◌∷◌, ◌++◌, length, drop, Ok, Err, sym, ap, ◌∙◌, append_assoc, append-nil, arith, length-drop}
+use Rattle.std.proofs.Common.{◌≡◌, ℕ, ◌+◌, ◌-◌, ◌<◌, ◌≤◌, List, [], ◌∷◌, ◌++◌, length, drop, Ok, Err, sym, ap, ◌∙◌, append_assoc, arith, length-drop}
 use Rattle.rules.specs.State.{State}
-use Rattle.tape.specs.Lines.{line_of, fault_line}
+use Rattle.tape.specs.Lines.{line_of}
 use Rattle.tape.specs.Play.{Played, carry_out, play_tape, play_from}
 use Rattle.tape.specs.Records.{kind_of, span, next_record, Tape, over, faulty, then, read_from}
 use Rattle.tape.specs.declared.fault.TapeFault.{TapeFault}
@@ -54,22 +54,12 @@ shorter rest later r e f =
 pub moved : {X : Type 0} (old new whole left : List X) (x : X) (more : List X) → new ≡ old ++ x ∷ [] → left ≡ x ∷ more → old ++ left ≡ whole → new ++ more ≡ whole
 moved old new whole left x more n l w = ap (λ xs. xs ++ more) n ∙ append_assoc old (x ∷ []) more ∙ ap (λ xs. old ++ xs) (sym l) ∙ w
 
--- where the records end or a fault stands, all is played
-module _ (tape rest : List ℕ) (st start : State) (items first : List Line)
-    (lines : items ++ (left_to_play tape rest st).lines ≡ first ++ (left_to_play tape tape start).lines) (state : (left_to_play tape rest st).state ≡ (left_to_play tape tape start).state) where
-  pub played_out : length rest ≡ 0 → (items ≡ first ++ (play_from 0 start tape).lines) × (st ≡ (play_from 0 start tape).state)
-  played_out none =
-      let left = none_left tape rest st none in
-      let all = all_left tape start in (
-        sym (append-nil items) ∙ ap (λ p. items ++ p.lines) (sym left) ∙ lines ∙ ap (λ p. first ++ p.lines) all,
-        ap (λ p. p.state) (sym left) ∙ state ∙ ap (λ p. p.state) all,
-      )
-
-  pub faulted : (new : List Line) (f : TapeFault) → 0 < length rest → next_record rest ≡ Err f → new ≡ items ++ fault_line f (length tape - length rest) ∷ []
-      → (new ≡ first ++ (play_from 0 start tape).lines) × (st ≡ (play_from 0 start tape).state)
-  faulted new f some e n =
-      let left = fault_left tape rest f st some e in
-      let all = all_left tape start in (
-        n ∙ ap (λ p. items ++ p.lines) (sym left) ∙ lines ∙ ap (λ p. first ++ p.lines) all,
-        ap (λ p. p.state) (sym left) ∙ state ∙ ap (λ p. p.state) all,
-      )
+-- where the records end or a fault stands, so that what is left is a tape `t` which leaves the state as it is, all is played with its lines
+pub all_played : (tape rest : List ℕ) (st start : State) (t : Tape) (new items first : List Line) → left_to_play tape rest st ≡ play_tape t st → (play_tape t st).state ≡ st → new ≡ items ++ (play_tape t st).lines
+    → items ++ (left_to_play tape rest st).lines ≡ first ++ (left_to_play tape tape start).lines → (left_to_play tape rest st).state ≡ (left_to_play tape tape start).state
+    → (new ≡ first ++ (play_from 0 start tape).lines) × (st ≡ (play_from 0 start tape).state)
+all_played tape rest st start t new items first left same n lines state =
+    let all = all_left tape start in (
+      n ∙ ap (λ p. items ++ p.lines) (sym left) ∙ lines ∙ ap (λ p. first ++ p.lines) all,
+      sym same ∙ ap (λ p. p.state) (sym left) ∙ state ∙ ap (λ p. p.state) all,
+    )

@@ -1,24 +1,17 @@
 -- Reading the records of a tape.
-use Rattle.std.proofs.Common.{◌≡◌, ℕ, zero, suc, ◌+◌, ◌-◌, ◌*◌, ◌<◌, ◌≤◌, Bool, true, false, cond, eqb, ltb, List, length, get_or, take, drop, Ok, Err, Result, sym, refl, ap, ◌∙◌, arith, length-drop}
-use Rattle.std.proofs.lemmas.List.{get_or_past, take_rest}
-use Rattle.std.proofs.lemmas.Bool.{cond_both, cond-false, eq-eqb, ne_eqb, le-ltb, ltb-false, eqb-true}
+use Rattle.std.proofs.Common.{◌≡◌, ℕ, zero, suc, ◌+◌, ◌*◌, ◌<◌, ◌≤◌, cond, eqb, List, length, get_or, drop, Ok, Err, Result, sym, refl, ap, ◌∙◌, arith, length-drop}
+use Rattle.std.proofs.lemmas.List.{get_or_past}
+use Rattle.std.proofs.lemmas.Bool.{cond-false, eq-eqb, ne_eqb, le-ltb, ltb-false, eqb-true}
 use Rattle.memory.proofs.Bytewise.{value_eight}
 use Rattle.memory.specs.Bytes.{value}
-use Rattle.tape.specs.Records.{number_at, length_in, kind_in, span, sized, record_of, next_record, over, faulty, then, begun_with, read_from}
+use Rattle.tape.specs.Records.{length_in, kind_in, span, record_of, next_record, over, faulty, then, begun_with, read_from}
 use Rattle.tape.specs.declared.fault.TapeFault.{TapeFault}
-use Rattle.tape.specs.declared.fault.TapeFault.TheVariants.{CutRecord, WrongLength}
+use Rattle.tape.specs.declared.fault.TapeFault.TheVariants.{CutRecord}
 use Rattle.tape.specs.declared.reader.Record.{Record}
 
 pub value_two : (l : List ℕ) → length l ≤ 2 → get_or l 0 0 + get_or l 1 0 * 256 ≡ value l
 value_two l h =
     omega (arith, value_eight l (omega arith), get_or_past l 2 0 h, get_or_past l 3 0 (omega arith), get_or_past l 4 0 (omega arith), get_or_past l 5 0 (omega arith), get_or_past l 6 0 (omega arith), get_or_past l 7 0 (omega arith))
-
--- a number is read by copying its bytes
-pub number_read : (bytes copied : List ℕ) (at n r : ℕ) → copied ≡ take (at + n - at) (drop at bytes) → r ≡ value copied → r ≡ number_at bytes at n
-unfolding number_at
-number_read bytes copied at n r c e =
-    let count : at + n - at ≡ n = omega arith in
-    e ∙ ap value (c ∙ ap (λ k. take k (drop at bytes)) count)
 
 -- ---- one record
 
@@ -30,29 +23,13 @@ not_cut bytes kind len k e f long whole r =
     ∙ cond-false _ (Err CutRecord) _ (le-ltb (length bytes) (span bytes) (omega arith))
     ∙ sym (r ∙ (λ i. record_of (e i) (f i) bytes))
 
--- what follows it
-pub what_follows : (bytes : List ℕ) (len : ℕ) → len ≡ length_in bytes → take (length bytes - (2 + len)) (drop (2 + len) bytes) ≡ drop (span bytes) bytes
-what_follows bytes len e = take_rest bytes (2 + len) ∙ ap (λ n. drop (2 + n) bytes) e
-
-err_not_ok : (f : TapeFault) (r : Record) → Err f ≡ Ok r → ⊥
-err_not_ok f r e = let z : ◌≡◌ {A = ℕ} 0 1 = cc in omega arith
-
 -- a record that is read has the length of its kind
-sized_right : (b : Bool) (found r : Record) → sized b found ≡ Ok r → b ≡ true
-sized_right true found r e = refl
-sized_right false found r e = absurd (err_not_ok WrongLength r e)
-
 record_spans : (kind len : ℕ) (bytes : List ℕ) (r : Record) → record_of kind len bytes ≡ Ok r → 3 ≤ len
-record_spans kind len bytes r = grind (arith, eqb-true, sized_right)
+record_spans kind len bytes r = grind (arith, eqb-true)
 
 -- a record takes five bytes or more, and they are all there
 pub spans : (bytes : List ℕ) (r : Record) → next_record bytes ≡ Ok r → (5 ≤ span bytes) × (span bytes ≤ length bytes)
-spans bytes r =
-    let P : Result Record TapeFault → Type 0 = λ k. k ≡ Ok r → (5 ≤ span bytes) × (span bytes ≤ length bytes) in
-    cond_both (ltb (length bytes) 4) (Err CutRecord) _ P (λ _ e. absurd (err_not_ok CutRecord r e)) (λ _.
-    cond_both (ltb (length bytes) (span bytes)) (Err CutRecord) _ P (λ _ e. absurd (err_not_ok CutRecord r e)) (λ t e.
-    let some : 3 ≤ length_in bytes = record_spans (kind_in bytes) (length_in bytes) bytes r e in
-    (omega arith, ltb-false (length bytes) (span bytes) t)))
+spans bytes r = grind (arith, record_spans, ltb-false)
 
 -- ---- all records
 

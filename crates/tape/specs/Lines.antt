@@ -10,7 +10,7 @@ use Rattle.tape.specs.declared.line.Line.{Line}
 
 -- a line: a record's kind, the number, node and word of an answer, and how many steps were accepted
 abbrev pub line : ℕ → ℕ × ℕ × ℕ → ℕ → Line
-line kind told steps = record { kind = kind; number = told.0; node = told.1; word = told.2; steps = steps }
+line kind told steps = record { kind = kind; told = record { number = told.0; node = told.1; word = told.2 }; steps = steps }
 
 -- what the last answer told; zeros where no call was made
 abbrev pub last_told : History → ℕ × ℕ × ℕ
@@ -45,7 +45,7 @@ counted n (Err f) = n
 -- the five numbers of a line in decimal, with a space between them
 abbrev pub line_text : Line → List ℕ
 line_text l =
-    decimal l.kind ++ (codes " " ++ (decimal l.number ++ (codes " " ++ (decimal l.node ++ (codes " " ++ (decimal l.word ++ (codes " " ++ decimal l.steps)))))))
+    decimal l.kind ++ (codes " " ++ (decimal l.told.number ++ (codes " " ++ (decimal l.told.node ++ (codes " " ++ (decimal l.told.word ++ (codes " " ++ decimal l.steps)))))))
 
 -- each line ends with a newline
 abbrev pub lines_text : List Line → List ℕ

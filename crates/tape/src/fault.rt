@@ -2,17 +2,17 @@
 ghost use Rattle.std.specs.Prelude.{◌≡◌};
 ghost use Rattle.tape.specs.Records.{tape_fault_number};
 
-/// What is wrong with a tape. It is read no further.
-#[derive(Clone, Copy)]
+/// What is wrong with a tape. It is read no further. Each fault has its number.
+#[derive(Clone, Copy, PartialEq, Eq, Debug)]
 pub enum TapeFault {
     /// The tape has more than 4,096 bytes.
-    LongTape,
+    LongTape = 32,
     /// The tape ends within a record.
-    CutRecord,
+    CutRecord = 33,
     /// The record's kind is not 1 to 4.
-    StrangeKind,
+    StrangeKind = 34,
     /// The record's length is not that of its kind.
-    WrongLength,
+    WrongLength = 35,
 }
 
 impl TapeFault {
@@ -20,11 +20,6 @@ impl TapeFault {
     pub fn number(self) -> u64
         ensures { result ≡ tape_fault_number self }
     {
-        match self {
-            TapeFault::LongTape => 32,
-            TapeFault::CutRecord => 33,
-            TapeFault::StrangeKind => 34,
-            TapeFault::WrongLength => 35,
-        }
+        self as u64
     }
 }

@@ -4,21 +4,17 @@ ghost use Rattle.rules.specs.Events.{told_by};
 ghost use Rattle.tape.specs.Lines.{line as line_rule, line_of, fault_line, line_text, lines_text};
 
 use super::fault::TapeFault;
-use rules::{Refusal, Report};
+use rules::{Refusal, Report, Told};
 use std::alloc::{AllocError, Global};
 use std::fmt;
 
-/// The five numbers of a line.
-#[derive(Clone, Copy)]
+/// What is said of a record, or of a fault: five numbers.
+#[derive(Clone, Copy, PartialEq, Eq, Debug, Default)]
 pub struct Line {
     /// The record's kind; 0 for a fault.
     pub kind: u64,
-    /// The number of the last report, refusal or fault; 0 if there was none.
-    pub number: u64,
-    /// The node that the report tells.
-    pub node: u64,
-    /// The value that the report tells.
-    pub word: u64,
+    /// What the last call answered, or the number of the fault; zeros if there was none.
+    pub told: Told,
     /// How many steps were accepted; of a fault, the offset of its record.
     pub steps: u64,
 }
@@ -28,22 +24,8 @@ impl Line {
     pub fn of_answer(kind: u64, answer: Result<Report, Refusal>, steps: u64) -> Line
         ensures { result ≡ line_rule kind (told_by answer) steps }
     {
-        match answer {
-            Ok(report) => Line {
-                kind,
-                number: report.number(),
-                node: report.node(),
-                word: report.word(),
-                steps,
-            },
-            Err(refusal) => Line {
-                kind,
-                number: refusal.number(),
-                node: 0,
-                word: 0,
-                steps,
-            },
-        }
+        let told = Told::from(answer);
+        Line { kind, told, steps }
     }
 
     /// The line of a record of this kind that made no call.
@@ -52,10 +34,7 @@ impl Line {
     {
         Line {
             kind,
-            number: 0,
-            node: 0,
-            word: 0,
-            steps: 0,
+            ..Line::default()
         }
     }
 
@@ -63,11 +42,13 @@ impl Line {
     pub fn of_fault(fault: TapeFault, offset: u64) -> Line
         ensures { result ≡ fault_line fault offset }
     {
+        let told = Told {
+            number: fault.number(),
+            ..Told::default()
+        };
         Line {
             kind: 0,
-            number: fault.number(),
-            node: 0,
-            word: 0,
+            told,
             steps: offset,
         }
     }
@@ -77,13 +58,8 @@ impl fmt::Display for Line {
     ghost output = { λ l. Some (line_text l) };
 
     fn fmt<W: fmt::Write>(&self, f: &mut fmt::Formatter<W>) -> fmt::Result {
-        let Line {
-            kind,
-            number,
-            node,
-            word,
-            steps,
-        } = *self;
+        let Line { kind, told, steps } = *self;
+        let Told { number, node, word } = told;
         write!(f, "{kind} {number} {node} {word} {steps}")
     }
 }

@@ -7,17 +7,16 @@ mod player;
 mod program;
 mod reader;
 
+use player::LONGEST;
 use program::printed;
 use std::io::Read;
 use std::process::ExitCode;
 
-/// A tape has at most 4,096 bytes, so no more than one byte past them is read.
-const READ: u64 = 4097;
-
 fn run(rt: &HostRuntime) -> anyhow::Result<()> {
     let heap = rt.alloc();
     let mut tape = Vec::new(heap);
-    rt.stdin().take(READ).read_to_end(&mut tape)?;
+    // one byte past the longest tape tells that a tape is too long
+    rt.stdin().take(LONGEST as u64 + 1).read_to_end(&mut tape)?;
     let text = printed(heap, tape.as_slice())?;
     rt.print(text)?;
     Ok(())

@@ -16,7 +16,7 @@ use rules::{Refusal, Report};
 use std::alloc::{AllocError, Global};
 
 /// The most bytes of a tape.
-const LONGEST: usize = 4096;
+pub const LONGEST: usize = 4096;
 
 /// The fewest bytes of a record.
 const SHORTEST: usize = 5;
@@ -25,10 +25,7 @@ const SHORTEST: usize = 5;
 fn accepted(before: u16, answer: Result<Report, Refusal>) -> u64
     ensures { result ≡ counted before answer }
 {
-    match answer {
-        Ok(_) => u64::from(before) + 1,
-        Err(_) => u64::from(before),
-    }
+    u64::from(before) + u64::from(answer.is_ok())
 }
 
 /// Whether no further step is made after this answer: the operation ended, or the step was refused.
@@ -36,24 +33,28 @@ fn stops(answer: Result<Report, Refusal>) -> bool
     ensures { result ≡ stops_rule answer }
 {
     match answer {
-        Ok(report) => match report.number() {
-            6..=14 => true,
-            _ => false,
-        },
+        // by number: that the reports which end are a range of numbers is the format's
+        Ok(report) => matches!(report.number(), 6..=14),
         Err(_) => true,
     }
 }
 
-/// Makes steps of a seat until the count is reached, an operation ends or a step is refused.
-fn make_steps<M: Memory, O: Order>(index: &mut Index<M, O>, seat: u64, count: u16) -> Line
-    ensures line { result ≡ line_of 3 (stepped count seat (view M.Memory O.Order index.old)).events }
+/// Makes steps of a seat until the count is reached, an operation ends or a step is refused: the line of a record of this
+/// kind that does.
+fn make_steps<M: Memory, O: Order>(
+    index: &mut Index<M, O>,
+    kind: u64,
+    seat: u64,
+    count: u16,
+) -> Line
+    ensures line { result ≡ line_of kind (stepped count seat (view M.Memory O.Order index.old)).events }
     ensures after { view M.Memory O.Order index.new ≡ (stepped count seat (view M.Memory O.Order index.old)).state }
     ensures outside { M.outside index.new.memory ≡ M.outside index.old.memory }
 {
-    let mut line = Line::of_no_call(3);
+    let mut line = Line::of_no_call(kind);
     for made in 0..count {
         let answer = index.step(seat);
-        line = Line::of_answer(3, answer, accepted(made, answer));
+        line = Line::of_answer(kind, answer, accepted(made, answer));
         if stops(answer) {
             return line;
         }
@@ -67,16 +68,14 @@ fn carry_out<M: Memory, O: Order>(index: &mut Index<M, O>, record: Record) -> Li
     ensures after { view M.Memory O.Order index.new ≡ (carry_out «record» (view M.Memory O.Order index.old)).state }
     ensures outside { M.outside index.new.memory ≡ M.outside index.old.memory }
 {
-    match record {
-        Record::Find { seat, key } => {
-            Line::of_answer(1, index.begin_find(u64::from(seat), key), 0)
-        }
-        Record::Put { seat, key, value } => {
-            Line::of_answer(2, index.begin_put(u64::from(seat), key, value), 0)
-        }
-        Record::Steps { seat, count } => make_steps(index, u64::from(seat), count),
-        Record::Abandon { seat } => Line::of_answer(4, index.abandon(u64::from(seat)), 0),
-    }
+    let kind = record.kind();
+    let answer = match record {
+        Record::Find { seat, key } => index.begin_find(u64::from(seat), key),
+        Record::Put { seat, key, value } => index.begin_put(u64::from(seat), key, value),
+        Record::Steps { seat, count } => return make_steps(index, kind, u64::from(seat), count),
+        Record::Abandon { seat } => index.abandon(u64::from(seat)),
+    };
+    Line::of_answer(kind, answer, 0)
 }
 
 /// Plays the records of a tape that is not too long, into lines that have room for them.
@@ -86,6 +85,7 @@ fn play_records<M: Memory, O: Order>(index: &mut Index<M, O>, tape: &[u8], lines
     ensures after { view M.Memory O.Order index.new ≡ (play_from 0 (view M.Memory O.Order index.old) tape.now).state }
     ensures outside { M.outside index.new.memory ≡ M.outside index.old.memory }
 {
+    // an iterator of records would keep the same rest, and hide how long it is, which a fault's line tells
     let mut rest = tape;
     while !rest.is_empty() {
         match read_record(rest) {
@@ -125,6 +125,7 @@ fn play_bytes<M: Memory, O: Order>(
 
 /// Plays a tape on an index: carries its records out one after the other, and answers a line for each, and one for a
 /// fault. A want of memory leaves the index as it was.
+#[tactic(auto, using(crate::proofs::Leading::leads_on, crate::proofs::Leading::stays_lawful, crate::proofs::Parts::in_parts, crate::proofs::Parts::fault_keeps, crate::proofs::Parts::long_keeps))]
 pub fn play<M: Memory, O: Order>(
     heap: Global,
     index: &mut Index<M, O>,

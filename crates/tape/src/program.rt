@@ -30,6 +30,7 @@ fn formatted<M: Memory, O: Order>(memory: M, order: O) -> Index<M, O>
 }
 
 /// The text that a tape prints, played on a new index. Only a want of memory refuses it.
+#[tactic(auto, using(crate::proofs::Starting::start_lawful))]
 pub fn printed(heap: Global, tape: &[u8]) -> Result<String, AllocError>
     ensures text { IfOk result (λ s. string_bytes s ≡ printed_rule tape.now) }
     ensures lawful { Lawful empty_map (play_rule start tape.now).events }

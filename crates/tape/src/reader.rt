@@ -1,11 +1,12 @@
 //! The records of a tape, read from its bytes.
 ghost use Rattle.std.specs.Prelude.{◌≡◌, ◌+◌, ◌≤◌, length, drop, Ok, Err, MatchResult};
-ghost use Rattle.tape.specs.Records.{number_at, record_of as record_rule, next_record, span};
+ghost use Rattle.memory.specs.Bytes.{value};
+ghost use Rattle.tape.specs.Records.{number_at, kind_of, record_of as record_rule, next_record, span};
 
 use super::fault::TapeFault;
 
 /// What a record asks for.
-#[derive(Clone, Copy)]
+#[derive(Clone, Copy, PartialEq, Eq, Debug)]
 pub enum Record {
     /// Kind 1: a seat begins to find a key.
     Find { seat: u8, key: u64 },
@@ -17,24 +18,30 @@ pub enum Record {
     Abandon { seat: u8 },
 }
 
-/// The number of the two bytes from `at` on, low byte first.
-fn short(bytes: &[u8], at: usize) -> u16
-    requires { at + 2 ≤ length bytes.now }
-    ensures { result ≡ number_at bytes.now at 2 }
-{
-    let mut short = [0; 2];
-    short.copy_from_slice(&bytes[at..at + 2]);
-    u16::from_le_bytes(short)
+impl Record {
+    /// The number of the record's kind, 1 to 4.
+    pub fn kind(self) -> u64
+        ensures { result ≡ kind_of self }
+    {
+        // the cases have fields, so their numbers are no discriminants
+        match self {
+            Record::Find { .. } => 1,
+            Record::Put { .. } => 2,
+            Record::Steps { .. } => 3,
+            Record::Abandon { .. } => 4,
+        }
+    }
 }
 
-/// The number of the eight bytes from `at` on, low byte first.
-fn word(bytes: &[u8], at: usize) -> u64
-    requires { at + 8 ≤ length bytes.now }
-    ensures { result ≡ number_at bytes.now at 8 }
+/// Some of the bytes, from `at` on.
+#[tactic(auto, unfolding(crate::specs::Records::number_at))]
+fn array<const N: usize>(bytes: &[u8], at: usize) -> [u8; N]
+    requires { at + N ≤ length bytes.now }
+    ensures { value result ≡ number_at bytes.now at N }
 {
-    let mut word = [0; 8];
-    word.copy_from_slice(&bytes[at..at + 8]);
-    u64::from_le_bytes(word)
+    let mut array = [0; N];
+    array.copy_from_slice(&bytes[at..at + N]);
+    array
 }
 
 /// The record of this kind and length, by its bytes.
@@ -45,16 +52,16 @@ fn record_of(kind: u16, len: u16, bytes: &[u8]) -> Result<Record, TapeFault>
     match kind {
         1 if len == 11 => Ok(Record::Find {
             seat: bytes[4],
-            key: word(bytes, 5),
+            key: u64::from_le_bytes(array(bytes, 5)),
         }),
         2 if len == 19 => Ok(Record::Put {
             seat: bytes[4],
-            key: word(bytes, 5),
-            value: word(bytes, 13),
+            key: u64::from_le_bytes(array(bytes, 5)),
+            value: u64::from_le_bytes(array(bytes, 13)),
         }),
         3 if len == 5 => Ok(Record::Steps {
             seat: bytes[4],
-            count: short(bytes, 5),
+            count: u16::from_le_bytes(array(bytes, 5)),
         }),
         4 if len == 3 => Ok(Record::Abandon { seat: bytes[4] }),
         1..=4 => Err(TapeFault::WrongLength),
@@ -63,17 +70,19 @@ fn record_of(kind: u16, len: u16, bytes: &[u8]) -> Result<Record, TapeFault>
 }
 
 /// Reads the record that the bytes begin with. Answers the record, and the bytes after it.
+#[tactic(auto, using(crate::proofs::Reading::value_two, crate::proofs::Reading::not_cut, std::proofs::lemmas::List::take_rest))]
 pub fn read_record(bytes: &[u8]) -> Result<(Record, &[u8]), TapeFault>
     ensures { MatchResult result (λ p. (next_record bytes.now ≡ Ok p.0) × (p.1.now ≡ drop (span bytes.now) bytes.now)) (λ f. next_record bytes.now ≡ Err f) }
 {
     if bytes.len() < 4 {
         return Err(TapeFault::CutRecord);
     }
-    let len = short(bytes, 0);
+    let len = u16::from_le_bytes(array(bytes, 0));
     let end = 2 + usize::from(len);
     if bytes.len() < end {
         return Err(TapeFault::CutRecord);
     }
-    let record = record_of(short(bytes, 2), len, bytes)?;
+    let kind = u16::from_le_bytes(array(bytes, 2));
+    let record = record_of(kind, len, bytes)?;
     Ok((record, &bytes[end..]))
 }

@@ -4,21 +4,25 @@
 #[derive(Clone, Copy)]
 pub(crate) struct Digest(u64);
 
-impl Digest {
-    /// The digest of no number.
-    pub(crate) fn new() -> Digest {
+/// The digest of no number.
+impl Default for Digest {
+    fn default() -> Digest {
         Digest(0xCBF2_9CE4_8422_2325)
     }
+}
 
+impl Digest {
     /// Takes one number more.
     pub(crate) fn add(&mut self, number: u64) {
         for byte in number.to_le_bytes() {
             self.0 = (self.0 ^ u64::from(byte)).wrapping_mul(0x100_0000_01B3);
         }
     }
+}
 
-    /// The digest of the numbers so far.
-    pub(crate) fn value(self) -> u64 {
-        self.0
+/// The digest of the numbers so far.
+impl From<Digest> for u64 {
+    fn from(digest: Digest) -> u64 {
+        digest.0
     }
 }

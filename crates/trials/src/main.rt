@@ -16,35 +16,20 @@ use scenario::Scenario;
 use std::alloc::Global;
 use std::io::{Read, Write};
 
-/// Where the line that starts at `from` ends: at the next line feed, or with the input.
-fn line_end(input: &[u8], from: usize) -> usize {
-    for (i, byte) in input.iter().enumerate().skip(from) {
-        if *byte == b'\n' {
-            return i;
-        }
-    }
-    input.len()
-}
-
 /// Whether a line has no word, or begins with a remark.
 fn is_skipped(line: &[u8]) -> bool {
-    for byte in line {
-        if *byte > b' ' {
-            return *byte == b'#';
-        }
-    }
-    true
+    line.iter()
+        .find(|byte| **byte > b' ')
+        .is_none_or(|byte| *byte == b'#')
 }
 
 /// The line that a scenario prints.
 fn answer(heap: Global, number: u64, line: &[u8]) -> anyhow::Result<String> {
-    match Scenario::from_line(line) {
-        Some(scenario) => {
-            let told = run_scenario(heap, &scenario)?;
-            Ok(format!(in heap; "{number}{told}\n")?)
-        }
-        None => Ok(format!(in heap; "{number} bad\n")?),
-    }
+    let Ok(scenario) = Scenario::try_from(line) else {
+        return Ok(format!(in heap; "{number} bad\n")?);
+    };
+    let tally = run_scenario(heap, &scenario)?;
+    Ok(format!(in heap; "{number}{tally}\n")?)
 }
 
 fn run(rt: &HostRuntime) -> anyhow::Result<()> {
@@ -52,19 +37,11 @@ fn run(rt: &HostRuntime) -> anyhow::Result<()> {
     let mut input = Vec::new(heap);
     rt.stdin().read_to_end(&mut input)?;
     let mut number = 0u64;
-    let mut from = 0;
-    for _ in 0..input.len() {
-        if from >= input.len() {
-            break;
+    for line in input.as_slice().split(|byte| *byte == b'\n') {
+        if !is_skipped(line) {
+            number = number.saturating_add(1);
+            rt.print(answer(heap, number, line)?)?;
         }
-        let end = line_end(input.as_slice(), from);
-        if let Some(line) = input.as_slice().get(from..end) {
-            if !is_skipped(line) {
-                number = number.saturating_add(1);
-                rt.print(answer(heap, number, line)?)?;
-            }
-        }
-        from = end.saturating_add(1);
     }
     Ok(())
 }

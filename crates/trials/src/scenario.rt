@@ -1,15 +1,24 @@
 //! What a line of the input asks for.
 
+use memory::Width;
+use std::num::NonZeroU64;
+
+/// What cells are made of.
+#[derive(Clone, Copy)]
+pub(crate) enum Bank {
+    /// Words of 64 bits.
+    Words,
+    /// Bytes, so many to a cell.
+    Bytes(Width),
+}
+
 /// What the index lies over.
 #[derive(Clone, Copy)]
 pub(crate) enum MemoryKind {
-    Word,
-    Byte2,
-    Byte4,
-    Byte8,
-    WordByte2,
-    Byte4Word,
-    Byte2Byte8,
+    /// Cells of one kind.
+    One(Bank),
+    /// Half of the cells of one kind, and after them the others of another.
+    Two(Bank, Bank),
 }
 
 /// In which order the keys are.
@@ -42,123 +51,96 @@ pub(crate) struct Scenario {
     pub cells: u64,
     pub seed: u64,
     pub rounds: u64,
-    pub keys: u64,
+    pub keys: NonZeroU64,
     pub mode: Mode,
 }
 
-/// The words of a line, one after another: runs of bytes above 32.
-#[derive(Drop)]
-struct Words<'a> {
-    line: &'a [u8],
-    at: usize,
-}
+/// That a word is none that a scenario has in its place, or a line no scenario.
+#[derive(Clone, Copy)]
+pub(crate) struct Bad;
 
-impl<'a> Words<'a> {
-    /// Steps over the bytes that are `space`, or that are not, and tells where it stops.
-    fn skip(&mut self, space: bool) -> usize {
-        let mut end = self.line.len();
-        for (i, byte) in self.line.iter().enumerate().skip(self.at) {
-            if (*byte <= b' ') != space {
-                end = i;
-                break;
-            }
-        }
-        self.at = end;
-        end
-    }
+impl TryFrom<&[u8]> for MemoryKind {
+    type Error = Bad;
 
-    /// The next word; an empty one at the end.
-    fn next_word(&mut self) -> &'a [u8] {
-        let start = self.skip(true);
-        let end = self.skip(false);
-        let line = self.line;
-        match line.get(start..end) {
-            Some(word) => word,
-            None => &[],
-        }
-    }
-
-    /// The next word as a number of one to eighteen digits.
-    fn next_number(&mut self) -> Option<u64> {
-        let word = self.next_word();
-        if word.is_empty() || word.len() > 18 {
-            return None;
-        }
-        let mut number = 0u64;
-        for byte in word {
-            if *byte < b'0' || *byte > b'9' {
-                return None;
-            }
-            number = number
-                .checked_mul(10)?
-                .checked_add(u64::from(*byte - b'0'))?;
-        }
-        Some(number)
-    }
-}
-
-impl MemoryKind {
-    fn named(word: &[u8]) -> Option<MemoryKind> {
+    fn try_from(word: &[u8]) -> Result<MemoryKind, Bad> {
         match word {
-            b"word" => Some(MemoryKind::Word),
-            b"byte2" => Some(MemoryKind::Byte2),
-            b"byte4" => Some(MemoryKind::Byte4),
-            b"byte8" => Some(MemoryKind::Byte8),
-            b"word+byte2" => Some(MemoryKind::WordByte2),
-            b"byte4+word" => Some(MemoryKind::Byte4Word),
-            b"byte2+byte8" => Some(MemoryKind::Byte2Byte8),
-            _ => None,
+            b"word" => Ok(MemoryKind::One(Bank::Words)),
+            b"byte2" => Ok(MemoryKind::One(Bank::Bytes(Width::Two))),
+            b"byte4" => Ok(MemoryKind::One(Bank::Bytes(Width::Four))),
+            b"byte8" => Ok(MemoryKind::One(Bank::Bytes(Width::Eight))),
+            b"word+byte2" => Ok(MemoryKind::Two(Bank::Words, Bank::Bytes(Width::Two))),
+            b"byte4+word" => Ok(MemoryKind::Two(Bank::Bytes(Width::Four), Bank::Words)),
+            b"byte2+byte8" => Ok(MemoryKind::Two(
+                Bank::Bytes(Width::Two),
+                Bank::Bytes(Width::Eight),
+            )),
+            _ => Err(Bad),
         }
     }
 }
 
-impl OrderKind {
-    fn named(word: &[u8]) -> Option<OrderKind> {
+impl TryFrom<&[u8]> for OrderKind {
+    type Error = Bad;
+
+    fn try_from(word: &[u8]) -> Result<OrderKind, Bad> {
         match word {
-            b"number" => Some(OrderKind::Number),
-            b"lane" => Some(OrderKind::Lane),
-            b"label" => Some(OrderKind::Label),
-            _ => None,
+            b"number" => Ok(OrderKind::Number),
+            b"lane" => Ok(OrderKind::Lane),
+            b"label" => Ok(OrderKind::Label),
+            _ => Err(Bad),
         }
     }
 }
 
-impl Mode {
-    fn named(word: &[u8]) -> Option<Mode> {
+impl TryFrom<&[u8]> for Mode {
+    type Error = Bad;
+
+    fn try_from(word: &[u8]) -> Result<Mode, Bad> {
         match word {
-            b"mixed" => Some(Mode::Mixed),
-            b"burst" => Some(Mode::Burst),
-            b"worn" => Some(Mode::Worn),
-            b"tired" => Some(Mode::Tired),
-            _ => None,
+            b"mixed" => Ok(Mode::Mixed),
+            b"burst" => Ok(Mode::Burst),
+            b"worn" => Ok(Mode::Worn),
+            b"tired" => Ok(Mode::Tired),
+            _ => Err(Bad),
         }
     }
 }
 
-impl Scenario {
-    /// The scenario of a line, if it is one.
-    pub(crate) fn from_line(line: &[u8]) -> Option<Scenario> {
-        let mut words = Words { line, at: 0 };
-        let memory = MemoryKind::named(words.next_word())?;
-        let order = OrderKind::named(words.next_word())?;
-        let fan = words.next_number()?;
-        let cells = words.next_number()?;
-        let seed = words.next_number()?;
-        let rounds = words.next_number()?;
-        let keys = words.next_number()?;
-        let mode = Mode::named(words.next_word())?;
-        if cells > 65_536 || keys == 0 || !words.next_word().is_empty() {
-            return None;
-        }
-        Some(Scenario {
-            memory,
-            order,
-            fan,
-            cells,
-            seed,
-            rounds,
-            keys,
-            mode,
+/// The number of one to eighteen digits that a word is.
+fn number(word: &[u8]) -> Result<u64, Bad> {
+    if word.is_empty() || word.len() > 18 {
+        return Err(Bad);
+    }
+    word.iter()
+        .try_fold(0u64, |number, byte| {
+            let digit = char::from(*byte).to_digit(10)?;
+            number.checked_mul(10)?.checked_add(u64::from(digit))
         })
+        .ok_or(Bad)
+}
+
+impl TryFrom<&[u8]> for Scenario {
+    type Error = Bad;
+
+    /// The scenario of a line. Its words are the longest runs of bytes above 32.
+    fn try_from(line: &[u8]) -> Result<Scenario, Bad> {
+        let mut words = line
+            .split(|byte| *byte <= b' ')
+            .filter(|word| !word.is_empty());
+        let mut next = || words.next().ok_or(Bad);
+        let scenario = Scenario {
+            memory: MemoryKind::try_from(next()?)?,
+            order: OrderKind::try_from(next()?)?,
+            fan: number(next()?)?,
+            cells: number(next()?)?,
+            seed: number(next()?)?,
+            rounds: number(next()?)?,
+            keys: NonZeroU64::new(number(next()?)?).ok_or(Bad)?,
+            mode: Mode::try_from(next()?)?,
+        };
+        if scenario.cells > 65_536 || words.next().is_some() {
+            return Err(Bad);
+        }
+        Ok(scenario)
     }
 }

@@ -1,28 +1,28 @@
 //! Keys, values and seats of draws.
 
 use super::scenario::OrderKind;
+use std::num::NonZeroU64;
 
 /// The keys that a trial draws from: so many, of an order, cut to the width of the top word.
 #[derive(Clone, Copy)]
 pub(crate) struct Space {
     pub order: OrderKind,
-    pub keys: u64,
+    pub keys: NonZeroU64,
     pub top: u64,
 }
 
 /// The letters of an index, the first in the lowest byte.
 fn letters(index: u64) -> u64 {
-    let mut wide = 0u64;
-    let mut n = index;
-    for place in 0..8u32 {
-        if n == 0 {
+    let mut letters = [0; 8];
+    let mut rest = index;
+    for letter in &mut letters {
+        let Some(n) = rest.checked_sub(1) else {
             break;
-        }
-        n -= 1;
-        wide |= (15 + 16 * (n & 15)) << (8 * place);
-        n >>= 4;
+        };
+        *letter = 15 + 16 * (n & 15) as u8;
+        rest = n >> 4;
     }
-    wide
+    u64::from_le_bytes(letters)
 }
 
 /// The words that are given now and then whether they are keys or not.
@@ -44,7 +44,7 @@ impl Space {
             OrderKind::Number => index.wrapping_mul(0x9E37_79B9_7F4A_7C15),
             OrderKind::Lane => {
                 let lane = (index & 3).wrapping_mul(85) << 32;
-                lane | ((index >> 2).wrapping_sub(self.keys >> 3) & 0xFFFF_FFFF)
+                lane | ((index >> 2).wrapping_sub(self.keys.get() >> 3) & 0xFFFF_FFFF)
             }
             OrderKind::Label => letters(index),
         };
@@ -56,7 +56,12 @@ impl Space {
         if draw >> 58 == 0 {
             return ODD[((draw >> 55) & 7) as usize];
         }
-        self.key((draw & 0xFFFF_FFFF).checked_rem(self.keys).unwrap_or(0))
+        self.key_in(draw & 0xFFFF_FFFF)
+    }
+
+    /// The key of a number, counted round and round the key space.
+    pub(crate) fn key_in(&self, number: u64) -> u64 {
+        self.key(number % self.keys.get())
     }
 
     /// The value of a draw.

@@ -7,9 +7,13 @@ use super::tally::Tally;
 use index::Index;
 use memory::Memory;
 use order::Order;
+use rules::{Refusal, Report};
 
 /// Rounds of `worn` that leave a lock word in two-byte cells nearly worn out.
 const TIRED: u64 = 32_760;
+
+/// What a call answers.
+type Answer = Result<Report, Refusal>;
 
 /// A trial under way.
 #[derive(Drop)]
@@ -21,99 +25,99 @@ struct Trial<M: Memory, O: Order> {
     fan: u64,
 }
 
+/// What a round draws.
+#[derive(Clone, Copy)]
+struct Draw {
+    /// Which call it makes, below 1024.
+    call: u64,
+    seat: u64,
+    key: u64,
+    value: u64,
+    /// How many steps follow it in a burst, at most.
+    most: u64,
+}
+
 impl<M: Memory, O: Order> Trial<M, O> {
-    fn format(&mut self, fan: u64) {
-        let answer = self.index.format(fan);
+    /// Makes a call, and notes its answer.
+    fn call<F: FnOnce(&mut Index<M, O>) -> Answer>(&mut self, call: F) -> Answer
+        requires { F.IsAlwaysCallable call }
+    {
+        let answer = call(&mut self.index);
         self.tally.note(answer);
-    }
-
-    fn begin_find(&mut self, seat: u64, key: u64) {
-        let answer = self.index.begin_find(seat, key);
-        self.tally.note(answer);
-    }
-
-    fn begin_put(&mut self, seat: u64, key: u64, value: u64) {
-        let answer = self.index.begin_put(seat, key, value);
-        self.tally.note(answer);
-    }
-
-    fn abandon(&mut self, seat: u64) {
-        let answer = self.index.abandon(seat);
-        self.tally.note(answer);
-    }
-
-    fn step(&mut self, seat: u64) -> u64 {
-        let answer = self.index.step(seat);
-        self.tally.note(answer)
+        answer
     }
 
     /// The calls that every scenario starts with.
     fn open(&mut self) {
-        self.begin_find(0, 0);
-        self.begin_put(7, 0, 0);
-        self.step(0);
-        self.abandon(8);
-        self.format(2);
-        self.format(14);
-        self.format(self.fan);
+        let fan = self.fan;
+        let _ = self.call(|index| index.begin_find(0, 0));
+        let _ = self.call(|index| index.begin_put(7, 0, 0));
+        let _ = self.call(|index| index.step(0));
+        let _ = self.call(|index| index.abandon(8));
+        let _ = self.call(|index| index.format(2));
+        let _ = self.call(|index| index.format(14));
+        let _ = self.call(|index| index.format(fan));
     }
 
     /// Steps a seat until so many steps were made, or one answers an ending or a refusal.
     fn drive(&mut self, seat: u64, most: u64) {
         for _ in 0..most {
-            if self.step(seat) >= 6 {
-                return;
+            match self.call(|index| index.step(seat)) {
+                Ok(report) if !report.ends() => {}
+                _ => return,
             }
+        }
+    }
+
+    /// The three draws of a round.
+    fn draw(&mut self) -> Draw {
+        let a = self.random.draw();
+        let k = self.random.draw();
+        let v = self.random.draw();
+        Draw {
+            call: a & 1023,
+            seat: seat_of(a),
+            key: self.space.key_of(k),
+            value: self.space.value_of(v),
+            most: if (a >> 32) & 3 == 0 {
+                (a >> 34) & 255
+            } else {
+                1000
+            },
         }
     }
 
     /// One call, drawn.
     fn mixed(&mut self) {
-        let a = self.random.draw();
-        let k = self.random.draw();
-        let v = self.random.draw();
-        let seat = seat_of(a);
-        let key = self.space.key_of(k);
-        let value = self.space.value_of(v);
-        match a & 1023 {
-            0..=11 => self.begin_find(seat, key),
-            12..=43 => self.begin_put(seat, key, value),
-            44 => self.abandon(seat),
-            45 => self.format(self.fan),
-            _ => {
-                self.step(seat);
-            }
-        }
+        let fan = self.fan;
+        let draw = self.draw();
+        let _ = self.call(|index| match draw.call {
+            0..=11 => index.begin_find(draw.seat, draw.key),
+            12..=43 => index.begin_put(draw.seat, draw.key, draw.value),
+            44 => index.abandon(draw.seat),
+            45 => index.format(fan),
+            _ => index.step(draw.seat),
+        });
     }
 
     /// One call, drawn, and then steps of its seat.
     fn burst(&mut self) {
-        let a = self.random.draw();
-        let k = self.random.draw();
-        let v = self.random.draw();
-        let seat = seat_of(a);
-        let key = self.space.key_of(k);
-        let value = self.space.value_of(v);
-        match a & 1023 {
-            0..=15 => self.abandon(seat),
-            16..=17 => self.format(self.fan),
-            18..=199 => self.begin_find(seat, key),
-            _ => self.begin_put(seat, key, value),
-        }
-        let most = if (a >> 32) & 3 == 0 {
-            (a >> 34) & 255
-        } else {
-            1000
-        };
-        self.drive(seat, most);
+        let fan = self.fan;
+        let draw = self.draw();
+        let _ = self.call(|index| match draw.call {
+            0..=15 => index.abandon(draw.seat),
+            16..=17 => index.format(fan),
+            18..=199 => index.begin_find(draw.seat, draw.key),
+            _ => index.begin_put(draw.seat, draw.key, draw.value),
+        });
+        self.drive(draw.seat, draw.most);
     }
 
     /// A put from begin to end on seat 0.
     fn worn(&mut self, round: u64) {
-        let key = self
-            .space
-            .key(round.checked_rem(self.space.keys).unwrap_or(0));
-        self.begin_put(0, key, round & self.space.top);
+        let key = self.space.key_in(round);
+        let value = round & self.space.top;
+        let _ = self.call(|index| index.begin_put(0, key, value));
         self.drive(0, 1000);
     }
 
@@ -147,7 +151,7 @@ pub(crate) fn run_trial<M: Memory + Drop, O: Order + Drop>(
     };
     let mut trial = Trial {
         index: Index::new(memory, order),
-        tally: Tally::new(),
+        tally: Tally::default(),
         random: Random::new(scenario.seed),
         space,
         fan: scenario.fan,
@@ -157,11 +161,10 @@ pub(crate) fn run_trial<M: Memory + Drop, O: Order + Drop>(
     let Trial {
         index,
         mut tally,
-        random: _,
-        space: _,
-        fan: _,
+        ..
     } = trial;
     let memory = index.into_memory();
+    // a memory gives its words by the numbers of cells alone
     for cell in 0..memory.length() {
         tally.note_cell(memory.read(cell).unwrap_or(0));
     }
