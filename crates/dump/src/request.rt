@@ -46,7 +46,8 @@ impl fmt::Display for Usage {
 
 impl Error for Usage {}
 
-/// The cell width that a text names. `Width` is of another crate, so its `FromStr` cannot stand here.
+/// The cell width that a text names.
+// stays a function: `Width` is of another crate, and a type around it for a `FromStr` would be longer
 pub fn width_from(text: &str) -> Result<Width, Usage>
     ensures { result ≡ width_named text.now }
 {

@@ -29,6 +29,7 @@ impl Walked {
 }
 
 /// Steps a seat, at most `most` times, until its operation ends or a step is refused.
+// stays a loop of its own: what it keeps of a step no other program does
 pub(crate) fn walk<M: Memory, O: Order>(index: &mut Index<M, O>, seat: u64, most: u64) -> Walked {
     let mut last = Told::default();
     for made in 0..most {

@@ -3,6 +3,7 @@
 //! Each public call says what the step rules say of it (`rule`), that a refusal leaves all as it was (`refused`), that
 //! what lies outside the memory's row stays (`outside`), where it leads every run that led here (`reached`), and that
 //! every such run stays lawful (`lawful`).
+// `refused` and `outside` stay in each contract: they compare the two ends of a call, which no invariant of one value can.
 ghost use Rattle.std.specs.Prelude.{◌≡◌, OnErr};
 ghost use Rattle.rules.specs.Calls.{format as format_rule, begin as begin_rule, step as step_rule, abandon as abandon_rule};
 ghost use Rattle.rules.specs.Histories.{BeginFind, BeginPut, Step, Abandon};

@@ -49,6 +49,7 @@ pub enum Report {
 
 impl Report {
     /// The number of the report, 0 to 14.
+    // stays a match: cases with fields have no discriminants to cast
     pub fn number(self) -> u64
         ensures { result ≡ (told self).0 }
     {

@@ -47,6 +47,7 @@ impl Made {
 }
 
 /// Makes steps of the seat, so many at most, until its operation ends.
+// stays a loop of its own: it is measured, and keeps of a step only whether it ends
 fn drive<M: Memory, O: Order>(index: &mut Index<M, O>, steps: u16) -> Made {
     for made in 0..steps {
         match index.step(SEAT) {

@@ -87,6 +87,7 @@ impl Task {
     }
 
     /// Makes steps until it has made `most` in all, its operation ends or a step is refused, and prints them.
+    // stays a loop of its own: it joins the steps that report the same
     fn walk<M: Memory, O: Order>(
         &mut self,
         rt: &HostRuntime,

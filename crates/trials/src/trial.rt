@@ -60,6 +60,7 @@ impl<M: Memory, O: Order> Trial<M, O> {
     }
 
     /// Steps a seat until so many steps were made, or one answers an ending or a refusal.
+    // stays a loop of its own, as in each program that drives a seat: each notes, counts or prints something else of a step
     fn drive(&mut self, seat: u64, most: u64) {
         for _ in 0..most {
             match self.call(|index| index.step(seat)) {
@@ -129,6 +130,7 @@ impl<M: Memory, O: Order> Trial<M, O> {
             }
         }
         for round in 0..rounds {
+            // stays a match: a mode is a word of the input, and each round's call differs
             match mode {
                 Mode::Mixed | Mode::Tired => self.mixed(),
                 Mode::Burst => self.burst(),
