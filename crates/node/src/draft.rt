@@ -13,8 +13,8 @@ use super::change::{Change, change_of, outcome_of};
 use order::Order;
 use rules::{Entry, Seat};
 
-/// Lays entries over the front of others.
-fn lay(entries: &mut [Entry], pairs: &[[u64; 2]])
+/// Lays the entries that these pairs of words are over the front of others.
+fn lay_pairs(entries: &mut [Entry], pairs: &[[u64; 2]])
     requires { length pairs.now ≤ length entries.old }
     ensures { entries.new ≡ laid (map pair pairs.now) entries.old }
 {
@@ -31,14 +31,14 @@ fn spread(entries: &mut [Entry], pairs: &[[u64; 2]], at: usize, new: Entry) -> u
     ensures count { result ≡ length pairs.now + 1 }
     ensures after { entries.new ≡ laid (insert_at (map pair pairs.now) at new) entries.old }
 {
-    lay(entries, &pairs[..at]);
+    lay_pairs(entries, &pairs[..at]);
     entries[at] = new;
-    lay(&mut entries[at + 1..], &pairs[at..]);
+    lay_pairs(&mut entries[at + 1..], &pairs[at..]);
     pairs.len() + 1
 }
 
 /// Lays the entries of a changed node over the front of others: how many they are.
-fn lay_changed(entries: &mut [Entry; 14], node: &Node<'_>, change: Option<Change>) -> usize
+fn lay(entries: &mut [Entry; 14], node: &Node<'_>, change: Option<Change>) -> usize
     requires { IfSome change (λ c. Within c (entries_of node.now.words.now)) }
     ensures count { result ≡ length (changed change (entries_of node.now.words.now)) }
     ensures few { result ≤ 14 }
@@ -46,12 +46,12 @@ fn lay_changed(entries: &mut [Entry; 14], node: &Node<'_>, change: Option<Change
 {
     let pairs = node.pairs();
     let Some(change) = change else {
-        lay(entries, pairs);
+        lay_pairs(entries, pairs);
         return pairs.len();
     };
     match change {
         Change::Replace { at, new } => {
-            lay(entries, pairs);
+            lay_pairs(entries, pairs);
             entries[at] = new;
             pairs.len()
         }
@@ -88,7 +88,7 @@ pub fn draft_update<O: Order>(seat: &mut Seat, order: &O, fan: u8, freeing: u64)
 {
     let change = change_of(seat, order);
     let node = Node::of(&seat.copy);
-    let len = lay_changed(&mut seat.draft.entries, &node, change);
+    let len = lay(&mut seat.draft.entries, &node, change);
     let left_len = left_len(fan);
     seat.draft.freeing = freeing;
     seat.draft.level = node.level();

@@ -3,4 +3,4 @@ use Rattle.node.proofs.draft.spread.Goals as goal
 
 pub returns-clause-after : goal.returns-clause-after
 returns-clause-after c =
-    spread_is c.args.pairs.now c.args.entries.now c.lay.new.entries c.lay-2.new.entries c.args.at c.args.new c.requires.at c.requires.room c.lay.ensures c.lay-2.ensures
+    spread_is c.args.pairs.now c.args.entries.now c.lay_pairs.new.entries c.lay_pairs-2.new.entries c.args.at c.args.new c.requires.at c.requires.room c.lay_pairs.ensures c.lay_pairs-2.ensures
