@@ -110,13 +110,8 @@ impl Report {
     pub fn ends(self) -> bool
         ensures { result ≡ ends (told self).0 }
     {
-        matches!(
-            self,
-            Report::Found { .. }
-                | Report::Absent(_)
-                | Report::Ended { .. }
-                | Report::Abandoned { .. }
-        )
+        // by number: a match of the cases makes a release six instructions dearer where it is asked after each step
+        matches!(self.number(), 6..=14)
     }
 }
 
