@@ -13,7 +13,10 @@ const PUT: u64 = 67;
 
 /// Makes so many steps of a seat: how many were accepted.
 fn drive<M: Memory, O: Order>(index: &mut Index<M, O>, seat: u64, steps: u64) -> usize {
-    (0..steps).filter(|_| index.step(seat).is_ok()).count()
+    (0..steps)
+        .map(|_| index.step(seat))
+        .filter(|answer| answer.is_ok())
+        .count()
 }
 
 /// Stores twelve keys in a leaf that holds thirteen, begins to put one of them again, and makes so many steps.

@@ -27,7 +27,7 @@ fn run(rt: &HostRuntime) -> anyhow::Result<()> {
     Ok(())
 }
 
-// stays beside the other program's: no crate lies below both alone, and a shared one would be longer than these lines
+// stays as in the other program with a message of its own: a crate for the two would be longer than these lines
 fn main(rt: HostRuntime) -> ExitCode {
     match run(&rt) {
         Ok(()) => ExitCode::SUCCESS,

@@ -47,7 +47,7 @@ impl fmt::Display for Usage {
 impl Error for Usage {}
 
 /// The cell width that a text names.
-// stays a function: `Width` is of another crate, and a type around it for a `FromStr` would be longer
+// stays a function: which texts name a width is this program's, and a type around `Width` for a `FromStr` would be longer
 pub fn width_from(text: &str) -> Result<Width, Usage>
     ensures { result ≡ width_named text.now }
 {
@@ -70,7 +70,7 @@ pub fn count_from(text: &str) -> Result<u64, Usage>
 fn nodes_from(width: &str, count: &str) -> Result<Request, Usage>
     ensures { AsksNodes width.now count.now result }
 {
-    let count = count_from(count);
+    let counted = count_from(count);
     Ok(Request {
         width: width_from(width)?,
         nodes: Some(count?),

@@ -6,6 +6,7 @@ use order::Order;
 use rules::{Refusal, Report, Told};
 
 /// The number of an answer.
+// stays a number: what the tests expect of an answer are the numbers that users are told
 pub(crate) fn number(answer: Result<Report, Refusal>) -> u64 {
     Told::from(answer).number
 }

@@ -13,12 +13,23 @@ fn cells<'a>(bytes: &'a mut [u8], count: usize, width: Width) -> ByteMemory<'a> 
     ByteMemory::new(&mut bytes[..used], width)
 }
 
+/// The memory with a zero in each cell.
+fn cleared<M: Memory>(mut memory: M) -> M {
+    for cell in 0..memory.length() {
+        let _ = memory.write(cell, 0);
+    }
+    memory
+}
+
 impl<O: Order + Copy> Ascending<O> {
-    /// All examples, one after the other: over a memory of five nodes or more, and over one of one node.
+    /// All examples, over a memory of five nodes or more as the one before left it and with zeros in it, and over one of
+    /// one node.
     fn over<M: Memory + Drop>(self, rt: &impl Abort, roomy: M, small: M) {
         let roomy = self.grows(rt, roomy);
         let roomy = self.abandons(rt, roomy);
-        self.turns_back(rt, roomy);
+        let roomy = self.turns_back(rt, roomy);
+        let roomy = self.abandons(rt, cleared(roomy));
+        self.turns_back(rt, cleared(roomy));
         self.fills_up(rt, small);
     }
 

@@ -38,10 +38,7 @@ fn cell(node: u64, word: u8) -> Result<u64, Fault>
 pub fn freeing(seat: &Seat, top: u64) -> Option<u64>
     ensures { result ≡ (if nat_lt top (version seat.now + 2) then None else Some (version seat.now + 2)) }
 {
-    match seat.copy[0].checked_add(2) {
-        Some(next) if next <= top => Some(next),
-        _ => None,
-    }
+    seat.copy[0].checked_add(2).filter(|next| *next <= top)
 }
 
 /// The access that is due at a seat, if its next step makes one. It is refused as the rules say, or where no memory has
@@ -77,6 +74,7 @@ pub fn due<M: Memory>(seat: &Seat, memory: &M, fan: u8) -> Result<Option<Access>
 }
 
 /// Makes one access; none, and a write, answer 0.
+// `same` and `outside` stay in each contract: they compare the two ends of a call, which no invariant of one value can
 pub fn perform<M: Memory>(memory: &mut M, access: Option<Access>) -> Result<u64, Fault>
     ensures answer { result ≡ answers (M.cells memory.old) (M.top memory.old) access }
     ensures after { M.cells memory.new ≡ leaves (M.cells memory.old) (M.top memory.old) access }

@@ -113,9 +113,7 @@ impl<M: Memory, O: Order> Index<M, O> {
         ensures rule { (result, view M.Memory O.Order self.new) ≡ begin_rule (view M.Memory O.Order self.old) seat key operation }
         ensures outside { M.outside self.new.memory ≡ M.outside self.old.memory }
     {
-        if self.fan.is_none() {
-            return Err(Refusal::Unformatted);
-        }
+        self.fan.ok_or(Refusal::Unformatted)?;
         let lent = &mut self.seats[place(seat)?];
         let Phase::Idle = lent.phase else {
             return Err(Refusal::Busy);
@@ -180,9 +178,7 @@ impl<M: Memory, O: Order> Index<M, O> {
         ensures rule { (result, view M.Memory O.Order self.new) ≡ abandon_rule (view M.Memory O.Order self.old) seat }
         ensures outside { M.outside self.new.memory ≡ M.outside self.old.memory }
     {
-        if self.fan.is_none() {
-            return Err(Refusal::Unformatted);
-        }
+        self.fan.ok_or(Refusal::Unformatted)?;
         let lent = &mut self.seats[place(seat)?];
         let report = abandon_report(lent)?;
         lent.phase = Phase::Idle;

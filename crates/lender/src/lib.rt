@@ -9,8 +9,8 @@ ghost use Rattle.memory.specs.Row.{front, guarded, written};
 
 use memory::{ByteMemory, Fault, Joined, Memory, Width, WordMemory};
 
-// A store for each kind of memory, and none for all kinds: what the loan holds afterwards is said by the kind, not by `Memory`.
 /// Stores a word in the caller's numbers. The memory is let go at the end, and the caller's numbers are known then.
+// stays one for each kind of memory: what the loan holds afterwards is said by the kind, not by `Memory`
 #[tactic(auto, using(crate::proofs::Storing::stored_lent))]
 pub fn store(words: &mut [u64], cell: u64, word: u64) -> Result<(), Fault>
     ensures answer { result ≡ guarded (front words.old) 18446744073709551615 cell word tt }
@@ -30,6 +30,7 @@ pub fn store_in_bytes(bytes: &mut [u8], width: Width, cell: u64, word: u64) -> R
 }
 
 /// Writes 0 to every cell of any memory.
+// `same` and `outside` stay in each contract: they compare the two ends of a call, which no invariant of one value can
 #[tactic(auto, using(crate::proofs::Storing::wiped_more, crate::proofs::Storing::wiped_all))]
 pub fn wipe<M: Memory>(memory: &mut M)
     ensures after { M.cells memory.new ≡ wiped (M.cells memory.old) }

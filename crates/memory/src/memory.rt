@@ -47,6 +47,7 @@ pub trait Memory {
         ensures outside { outside self.new ≡ outside self.old }
     {
         let held = self.read(cell)?;
+        // stays written out, as in two memories: a function for one comparison is no shorter
         if word > self.top_word() {
             return Err(Fault::TooWide);
         }

@@ -33,7 +33,7 @@ module _ (ws : List ℕ) (full : length ws ≡ 32) where
       let k : length (drop 6 ws) / 2 ≡ 13 = rw behind in
       rw k (paired_chunks 13 (drop 6 ws) (rw behind (omega arith)))
 
-  -- the words from the sixth on as pairs, as many as there are entries
+  -- the words from word 6 on as pairs, as many as there are entries
   pub pairs_are : (s : List ℕ) (xs : List (List ℕ)) (n : ℕ) → s ≡ take 26 (drop 6 ws) → xs ≡ first_chunks 2 (length s / 2) s → n ≡ length (entries ws)
       → map pair (take n xs) ≡ entries ws
   pairs_are s xs n e c l =

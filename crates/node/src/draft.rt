@@ -66,6 +66,7 @@ fn lay(entries: &mut [Entry; 14], node: &Node<'_>, change: Option<Change>) -> us
 }
 
 /// The key at `i` of the first `len` entries; 0 past them.
+// stays 0 for none: the draft has the edge of a split in its place, and 0 where nothing is split
 fn key_at(entries: &[Entry; 14], len: usize, i: usize) -> u64
     ensures { result ≡ (slice_index_or (take len entries.now) i (entry_of 0 0)).key }
 {
@@ -95,7 +96,7 @@ pub fn draft_update<O: Order>(seat: &mut Seat, order: &O, fan: u8, freeing: u64)
     seat.draft.outcome = outcome_of(&node, change);
     seat.draft.left = 0;
     seat.draft.right = 0;
-    seat.draft.edge = key_at(&seat.draft.entries, len, left_len as usize - 1);
+    seat.draft.edge = key_at(&seat.draft.entries, len, usize::from(left_len) - 1);
     seat.draft.left_len = left_len;
     seat.draft.len = len as u8;
 }

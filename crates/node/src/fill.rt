@@ -44,20 +44,13 @@ fn drafted(draft: &Draft) -> &[Entry]
     &entries[..usize::from(draft.len).min(entries.len())]
 }
 
-/// Those of them that go left in a split.
-fn left_entries(draft: &Draft) -> &[Entry]
-    ensures { result.now ≡ left_rule draft.now }
+/// Those of them that go left in a split, and those that go right.
+fn halves(draft: &Draft) -> (&[Entry], &[Entry])
+    ensures left { result.0.now ≡ left_rule draft.now }
+    ensures right { result.1.now ≡ right_rule draft.now }
 {
     let entries = drafted(draft);
-    &entries[..usize::from(draft.left_len).min(entries.len())]
-}
-
-/// Those of them that go right in a split.
-fn right_entries(draft: &Draft) -> &[Entry]
-    ensures { result.now ≡ right_rule draft.now }
-{
-    let entries = drafted(draft);
-    &entries[usize::from(draft.left_len).min(entries.len())..]
+    entries.split_at(usize::from(draft.left_len).min(entries.len()))
 }
 
 /// A word of the root above the two nodes of its split.
@@ -89,7 +82,7 @@ fn left_part(draft: &Draft, level: u64) -> Content<'_>
         level,
         link: draft.right,
         high: draft.edge,
-        entries: left_entries(draft),
+        entries: halves(draft).0,
     }
 }
 
@@ -127,7 +120,7 @@ fn right_part(seat: &Seat) -> Content<'_>
         level: node.level(),
         link,
         high,
-        entries: right_entries(&seat.draft),
+        entries: halves(&seat.draft).1,
     }
 }
 

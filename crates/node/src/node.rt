@@ -60,6 +60,7 @@ impl<'a> Node<'a> {
     }
 
     /// The entry at `i`; zeros past the last.
+    // stays zeros for none: by the rules the words of unused entries are 0
     pub fn entry(&self, i: usize) -> Entry
         ensures { result ≡ slice_index_or (entries self.now.words.now) i (entry_of 0 0) }
     {
@@ -88,6 +89,7 @@ impl<'a> Node<'a> {
     }
 
     /// The child that leads to a key; 0 of a node with no entries.
+    // stays 0 for none: by the rules a step goes on at node 0 then
     pub fn child<O: Order>(&self, order: &O, key: u64) -> u64
         ensures { result ≡ child_rule (O.before order.now) key (entries self.now.words.now) }
     {

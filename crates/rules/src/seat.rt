@@ -56,6 +56,7 @@ pub enum Phase {
 }
 
 /// What a seat that holds a latch will write, worked out when the latch is won.
+// left and right stay 0 where nothing is split: nothing reads them then
 #[derive(Clone, Copy)]
 pub struct Draft {
     /// The lock word that frees the node.

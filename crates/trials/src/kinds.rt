@@ -36,7 +36,7 @@ impl Bank {
 #[derive(Clone, Copy)]
 struct Alone<'a>(&'a Scenario);
 
-impl<'a> Run for Alone<'a> {
+impl Run for Alone<'_> {
     fn on<M: Memory + Drop>(self, memory: M) -> Result<Tally, AllocError> {
         let Alone(scenario) = self;
         Ok(match scenario.order {
@@ -56,7 +56,7 @@ struct Before<'a> {
     scenario: &'a Scenario,
 }
 
-impl<'a> Run for Before<'a> {
+impl Run for Before<'_> {
     fn on<M: Memory + Drop>(self, first: M) -> Result<Tally, AllocError> {
         let scenario = self.scenario;
         self.second
@@ -71,7 +71,7 @@ struct After<'a, M> {
     scenario: &'a Scenario,
 }
 
-impl<'a, M: Memory + Drop> Run for After<'a, M> {
+impl<M: Memory + Drop> Run for After<'_, M> {
     fn on<N: Memory + Drop>(self, second: N) -> Result<Tally, AllocError> {
         let After { first, scenario } = self;
         Alone(scenario).on(Joined::new(first, second))

@@ -36,12 +36,9 @@ fn run(rt: &HostRuntime) -> anyhow::Result<()> {
     let heap = rt.alloc();
     let mut input = Vec::new(heap);
     rt.stdin().read_to_end(&mut input)?;
-    let mut number = 0u64;
-    for line in input.as_slice().split(|byte| *byte == b'\n') {
-        if !is_skipped(line) {
-            number = number.saturating_add(1);
-            rt.print(answer(heap, number, line)?)?;
-        }
+    let lines = input.as_slice().split(|byte| *byte == b'\n');
+    for (line, number) in lines.filter(|line| !is_skipped(line)).zip(1u64..) {
+        rt.print(answer(heap, number, line)?)?;
     }
     Ok(())
 }
