@@ -73,7 +73,7 @@ fn nodes_from(width: &str, count: &str) -> Result<Request, Usage>
     let counted = count_from(count);
     Ok(Request {
         width: width_from(width)?,
-        nodes: Some(count?),
+        nodes: Some(counted?),
     })
 }
 
