@@ -4,3 +4,4 @@ pub mod Playing
 pub mod Leading
 pub mod Parts
 pub mod Starting
+pub mod Lines

@@ -1,5 +1,5 @@
 //! The lines that a tape prints.
-ghost use Rattle.std.specs.Prelude.{◌≡◌, [], ◌++◌, IfOk, Some, string_bytes, OnOk};
+ghost use Rattle.std.specs.Prelude.{◌≡◌, [], IfOk, Some, string_bytes};
 ghost use Rattle.rules.specs.Events.{told_by};
 ghost use Rattle.tape.specs.Lines.{line as line_rule, line_of, fault_line, line_text, lines_text};
 
@@ -64,21 +64,24 @@ impl fmt::Display for Line {
     }
 }
 
-/// Appends the lines.
-fn write_lines(text: &mut String, lines: &[Line]) -> Result<(), AllocError>
-    ensures { OnOk result (string_bytes text.new ≡ string_bytes text.old ++ lines_text lines.now) }
-{
-    for line in lines {
-        writeln!(text, "{line}")?;
+/// Lines, one after another.
+#[derive(Clone, Copy)]
+struct Lines<'a>(&'a [Line]);
+
+impl fmt::Display for Lines<'_> {
+    ghost output = { λ l. Some (lines_text l.0.now) };
+
+    fn fmt<W: fmt::Write>(&self, f: &mut fmt::Formatter<W>) -> fmt::Result {
+        for line in self.0 {
+            writeln!(f, "{line}")?;
+        }
+        Ok(())
     }
-    Ok(())
 }
 
 /// The text of the lines, which only a want of memory refuses.
 pub fn lines_text(heap: Global, lines: &[Line]) -> Result<String, AllocError>
     ensures { IfOk result (λ s. string_bytes s ≡ lines_text lines.now) }
 {
-    let mut text = String::new(heap);
-    write_lines(&mut text, lines)?;
-    Ok(text)
+    format!(in heap; "{}", Lines(lines))
 }

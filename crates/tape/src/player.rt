@@ -1,4 +1,6 @@
 //! The records of a tape, carried out on an index.
+// `outside` and `refused` stay in each contract: they compare the two ends of a call, which no invariant of one value can.
+
 ghost use Rattle.std.specs.Prelude.{◌≡◌, ◌+◌, ◌/◌, ◌<◌, ◌++◌, length, IfOk, vec_len, vec_capacity, OnErr, OnOk};
 ghost use Rattle.index.specs.Views.{view};
 ghost use Rattle.tape.specs.Laws.{LeadsOn, StaysLawful, InParts, FaultKeeps, LongKeeps};
@@ -33,12 +35,12 @@ fn stops(answer: Result<Report, Refusal>) -> bool
     ensures { result ≡ stops_rule answer }
 {
     match answer {
-        // by number: that the reports which end are a range of numbers is the format's
-        Ok(report) => matches!(report.number(), 6..=14),
+        Ok(report) => report.ends(),
         Err(_) => true,
     }
 }
 
+// stays a loop of its own: it keeps the last answer and how many were accepted, and each is in its contract
 /// Makes steps of a seat until the count is reached, an operation ends or a step is refused: the line of a record of this
 /// kind that does.
 fn make_steps<M: Memory, O: Order>(
