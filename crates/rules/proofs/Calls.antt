@@ -2,6 +2,7 @@
 use Rattle.std.proofs.Common.{◌≡◌, ℕ, suc, ◌+◌, ◌/◌, ◌%◌, ◌<◌, ◌≤◌, Bool, true, false, cond, ◌||◌, eqb, ltb, ◌≢◌, List, ◌∷◌, length, get_or, set, Some, None, Option, Ok, Err, Result, sym, refl, ◌∙◌, subst, inl, inr, arith}
 use Rattle.std.proofs.lemmas.List.{get_or-set_same, get_or-set_other, length-set}
 use Rattle.std.proofs.lemmas.Bool.{cases_eq, cond_both, cond-true, cond-false, eqb-true, eqb-false, ne_eqb, ltb-true, ltb-false, or_parts, and_left, and_right, true≢false}
+use Rattle.std.proofs.lemmas.Option.{none-some}
 use Rattle.memory.specs.declared.fault.Fault.{Fault}
 use Rattle.memory.specs.Row.{read_at, guarded}
 use Rattle.tree.specs.Tree as T
@@ -28,7 +29,6 @@ use Rattle.rules.specs.declared.refusal.Refusal.{Refusal}
 use Rattle.rules.specs.declared.report.Report.{Report}
 use Rattle.rules.specs.declared.report.Report.TheVariants.{GoneOn, Abandoned}
 use Rattle.rules.specs.declared.seat.Seat.{Seat}
-use Rattle.rules.proofs.Basics.{no_none}
 use Rattle.rules.proofs.Cells.{word, put, lock, word_is, put_is}
 use Rattle.rules.proofs.Events.{untouched_refused, refused, not_accepted, not_published, answer_of, Restarted, restarted_find, restarted_put}
 use Rattle.rules.proofs.Inv.{Setting, World, post_of, Begins, Doing, SeatIn, Inv}
@@ -62,15 +62,7 @@ pub record Kept (σ : Setting) (iskey : ℕ → Bool) (h : History) (c : Call) (
 
 idle_is : (ph : Phase) → is_idle ph ≡ true → ph ≡ phase.Idle
 idle_is phase.Idle e = refl
-idle_is phase.Look e = absurd (true≢false (sym e))
-idle_is (phase.Copy i) e = absurd (true≢false (sym e))
-idle_is phase.Check e = absurd (true≢false (sym e))
-idle_is phase.Latch e = absurd (true≢false (sym e))
-idle_is phase.Take e = absurd (true≢false (sym e))
-idle_is (phase.Fill p i) e = absurd (true≢false (sym e))
-idle_is phase.Release e = absurd (true≢false (sym e))
-idle_is phase.Undo e = absurd (true≢false (sym e))
-idle_is (phase.End r) e = absurd (true≢false (sym e))
+idle_is ph e = absurd (true≢false (sym e))
 
 rely_same : (σ : Setting) (W : World) (h : History) (e : Event) (a : ℕ) (ph : Phase) (y : Seat) → Rely σ W W h e a ph y
 rely_same σ W h e a ph y =
@@ -269,7 +261,7 @@ module _ (σ : Setting) (iskey : ℕ → Bool) (keyed : (k : ℕ) → iskey k �
         let x' = starting_out x k t in
         let none : holding x ≡ None = rw (idle_is x.phase idle) refl in
         let seat0 = ((tree_stands σ.order).seats_start g ι.nodes.sound).0 k (keyed k key (ltb-false σ.top k (or_parts (ltb σ.top k) (ltb σ.top (value_of t)) low).0)) in
-        let G = good_calm ι e i x' (sym none) (λ q z. absurd z) (λ d z. no_none d (sym free ∙ z)) (λ _. refl)
+        let G = good_calm ι e i x' (sym none) (λ q z. absurd z) (λ d z. absurd (none-some d (sym free ∙ z))) (λ _. refl)
         (record { seated = rw free seat0; begins = bg h R }, rw R.place_is refl, rw R.place_is refl) R.holds_same (λ _. ι.sizes i b8) in
         record {
           cells = m;
@@ -288,7 +280,7 @@ module _ (σ : Setting) (iskey : ℕ → Bool) (keyed : (k : ℕ) → iskey k �
     freed_kept p none published =
         let e = answer_of (Abandon i) (Abandoned p) in
         let x' = in_phase x phase.Idle in
-        let G = good_calm ι e i x' (sym none) (λ q z. absurd z) (λ d z. no_none d z) (λ q. quiet p q) tt refl (λ _. ι.sizes i b8) in
+        let G = good_calm ι e i x' (sym none) (λ q z. absurd z) (λ d z. absurd (none-some d z)) (λ q. quiet p q) tt refl (λ _. ι.sizes i b8) in
         record {
           cells = m;
           count = c;

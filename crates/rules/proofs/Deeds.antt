@@ -1,6 +1,7 @@
 -- A deed is what an operation does to the tree at its release. Each has three shapes: in place, a split, and a split of the root.
 use Rattle.std.proofs.Common.{◌≡◌, ℕ, zero, suc, ◌+◌, ◌-◌, ◌^◌, ◌<◌, ◌≤◌, true, false, cond, ltb, ◌≢◌, List, [], ◌∷◌, length, take, drop, Some, None, Option, sym, refl, ap, ◌∙◌, inl, inr, arith, length-drop, length-take}
 use Rattle.std.proofs.lemmas.Bool.{cond_both, cond-true, cond-false, eqb-true, eqb-false, ltb-true, ltb-false}
+use Rattle.std.proofs.lemmas.Option.{none-some}
 use Rattle.tree.specs.Node as N
 use Rattle.tree.specs.Tree as T
 use Rattle.tree.specs.Updates as U
@@ -20,7 +21,7 @@ use Rattle.rules.specs.declared.seat.Phase.{Phase}
 use Rattle.rules.specs.declared.seat.Phase.TheVariants as phase
 use Rattle.rules.specs.declared.report.Report.{Report}
 use Rattle.rules.specs.declared.seat.Seat.{Seat}
-use Rattle.rules.proofs.Basics.{no_none, both}
+use Rattle.rules.proofs.Basics.{both}
 use Rattle.rules.proofs.Cells.{word, put}
 use Rattle.rules.proofs.Entries.{row, length_row, row_take, row_drop, last_is}
 use Rattle.rules.proofs.Words.{encodes_same, encodes_as}
@@ -37,7 +38,7 @@ is_linked v lo T.free z = z
 is_linked v lo (T.held y a b) z = tt
 
 aims_open : (σ : Setting) (W : World) (post : Option ℕ) (k aim d : ℕ) → post ≡ Some d → T.Aims σ.order W.tree post k aim → Open W d
-aims_open σ W None k aim d e z = no_none d e
+aims_open σ W None k aim d e z = absurd (none-some d e)
 aims_open σ W (Some c) k zero d e z = absurd z
 aims_open σ W (Some c) k (suc v) d e z = let q : c ≡ d = cc in rw (sym q) (is_linked v (suc (σ.order.rank k)) (W.tree c) z.place.1)
 
@@ -45,16 +46,9 @@ doing_owed : {σ : Setting} {W : World} {h : History} {s : ℕ} {x : Seat} (d : 
 doing_owed {σ} {W} {x} d k e = aims_open σ W (post_of x.operation) x.key x.aim d e k.seated.aims
 
 pub owed_open : (σ : Setting) (W : World) (h : History) (s : ℕ) (ph : Phase) (x : Seat) (d : ℕ) → SeatIn σ W h s ph x → owed_in ph x.operation ≡ Some d → Open W d
-owed_open σ W h s phase.Idle x d k e = no_none d e
-owed_open σ W h s phase.Look x d k e = doing_owed d k.0 e
-owed_open σ W h s (phase.Copy i) x d k e = doing_owed d k.0 e
-owed_open σ W h s phase.Check x d k e = doing_owed d k.0 e
-owed_open σ W h s phase.Latch x d k e = doing_owed d k.0 e
-owed_open σ W h s phase.Take x d k e = doing_owed d k.0 e
-owed_open σ W h s (phase.Fill p i) x d k e = doing_owed d k.0 e
-owed_open σ W h s phase.Release x d k e = doing_owed d k.0 e
-owed_open σ W h s phase.Undo x d k e = doing_owed d k.0 e
-owed_open σ W h s (phase.End r) x d k e = no_none d e
+owed_open σ W h s phase.Idle x d k e = absurd (none-some d e)
+owed_open σ W h s (phase.End r) x d k e = absurd (none-some d e)
+owed_open σ W h s ph x d k e = doing_owed d k.0 e
 
 not_linked : (p : T.Place) → ¬ (Linked p) → p ≡ T.free
 not_linked T.free z = refl
@@ -116,7 +110,7 @@ module _ {σ : Setting} {W : World} {f : ℕ → Seat} {h : History} (ι : Inv �
           record {
             words = written σ.fan W (f s);
             tree = g;
-            good = released_good ι s b8 e k g D.settled r u (in_phase (f s) (phase.End (f s).draft.outcome)) D.gone refl (λ q z. z) D.free (λ t d q z. no_none q z)
+            good = released_good ι s b8 e k g D.settled r u (in_phase (f s) (phase.End (f s).draft.outcome)) D.gone refl (λ q z. z) D.free (λ t d q z. absurd (none-some q z))
                 (D.ended, rw D.now refl) (ι.sizes s b8);
             laws = D.laws;
           }
@@ -126,7 +120,7 @@ module _ {σ : Setting} {W : World} {f : ℕ → Seat} {h : History} (ι : Inv �
           record {
             words = written σ.fan W (f s);
             tree = g;
-            good = released_good ι s b8 e k g D.settled r u (in_phase (f s) (phase.End outcome.Untold)) D.gone refl (λ q z. z) D.free (λ t d q z. no_none q z)
+            good = released_good ι s b8 e k g D.settled r u (in_phase (f s) (phase.End outcome.Untold)) D.gone refl (λ q z. z) D.free (λ t d q z. absurd (none-some q z))
                 (D.was_new z, rw D.now refl) (ι.sizes s b8);
             laws = D.laws;
           }

@@ -31,25 +31,18 @@ untouched m₀ e h s a b c =
     }
 
 not_steps : (c : Call) (s : ℕ) → s ≢ seat_of c → steps c s ≡ false
-not_steps (Format fan) s d = refl
-not_steps (BeginFind i k) s d = refl
-not_steps (BeginPut i k v) s d = refl
 not_steps (Step i) s d = ne_eqb s i d
-not_steps (Abandon i) s d = refl
+not_steps c s d = refl
 
 not_restarts : (c : Call) (s : ℕ) → s ≢ seat_of c → restarts c s ≡ false
-not_restarts (Format fan) s d = refl
 not_restarts (BeginFind i k) s d = ne_eqb s i d
 not_restarts (BeginPut i k v) s d = ne_eqb s i d
-not_restarts (Step i) s d = refl
-not_restarts (Abandon i) s d = refl
+not_restarts c s d = refl
 
 not_begins : (c : Call) (s : ℕ) (b : Begun) → s ≢ seat_of c → begins c s b ≡ b
-not_begins (Format fan) s b d = refl
 not_begins (BeginFind i k) s b d = cond-false (eqb s i) _ _ (ne_eqb s i d)
 not_begins (BeginPut i k v) s b d = cond-false (eqb s i) _ _ (ne_eqb s i d)
-not_begins (Step i) s b d = refl
-not_begins (Abandon i) s b d = refl
+not_begins c s b d = refl
 
 either : {A : Type 0} (b : Bool) (x y : A) → x ≡ y → cond b x y ≡ y
 either true x y e = e
@@ -62,16 +55,7 @@ untouched_other m₀ e h s d =
 
 refused_number : (f : Refusal) → 21 ≤ refusal_number f
 refused_number refusal.Unformatted = omega arith
-refused_number refusal.NoSeat = omega arith
-refused_number refusal.Busy = omega arith
-refused_number refusal.NoCell = omega arith
-refused_number refusal.TooWide = omega arith
-refused_number refusal.NoKey = omega arith
-refused_number refusal.Idle = omega arith
-refused_number refusal.Holding = omega arith
-refused_number refusal.Formatted = omega arith
-refused_number refusal.BadFan = omega arith
-refused_number refusal.TooSmall = omega arith
+refused_number f = omega arith
 
 abbrev pub refused : Call → Refusal → Event
 refused c f = record { call = c; answer = Err f }
@@ -124,7 +108,7 @@ restarted_put m₀ h s k v = record { holds_same = refl; place_is = rw (eq-eqb s
 
 -- a seat that holds nothing is not the one that holds
 pub not_me : (h : History) (s o n : ℕ) → holds h s ≡ None → holds h o ≡ Some n → o ≢ s
-not_me h s o n free p z = let k : ◌≡◌ {A = ℕ} 0 1 = cc in omega arith
+not_me h s o n free p z = cc
 
 pub disturbed_later : (e : Event) (h : History) (s n : ℕ) → since_look (e ∷ h) s ≡ suc (since_look h s) → Disturbed h s n → Disturbed (e ∷ h) s n
 disturbed_later e h s n more d = (suc d.0, omega (arith, more), d.2, d.3, d.4)

@@ -1,6 +1,7 @@
 -- One call of one seat: what is to be shown of it, and that this gives the invariant after the call. The laws of a call that is no test.
 use Rattle.std.proofs.Common.{◌≡◌, ℕ, ◌+◌, ◌*◌, ◌%◌, ◌<◌, ◌≤◌, Bool, true, false, ◌&&◌, T, ◌≢◌, ◌⊎◌, ◌↔◌, List, ◌∷◌, length, Some, Option, sym, refl, ◌∙◌, inl, inr, arith}
-use Rattle.std.proofs.lemmas.Bool.{cases_eq}
+use Rattle.std.proofs.lemmas.Bool.{cases_eq, and_left, and_right}
+use Rattle.std.proofs.lemmas.Option.{none-some, same_Some}
 use Rattle.tree.specs.Tree as T
 use Rattle.rules.specs.Histories.{Event, History}
 use Rattle.rules.specs.Events.{number, node, ends, stepped, seat_of}
@@ -10,7 +11,7 @@ use Rattle.rules.specs.Laws.{FindLaw, PutLaw, TurningLaw, AbandonLaw}
 use Rattle.rules.specs.declared.seat.Phase.{Phase}
 use Rattle.rules.specs.declared.seat.Phase.TheVariants as phase
 use Rattle.rules.specs.declared.seat.Seat.{Seat}
-use Rattle.rules.proofs.Basics.{some_same, no_none}
+use Rattle.rules.proofs.Basics.{fails}
 use Rattle.rules.proofs.Cells.{word, lock}
 use Rattle.rules.proofs.Events.{Untouched, untouched_other}
 use Rattle.rules.proofs.Inv.{Setting, World, Open, holding_in, owed_in, MineIn, Hold, SeatIn, Coded, Inv}
@@ -25,32 +26,25 @@ owed x = owed_in x.phase x.operation
 abbrev pub Mine : ℕ → Seat → ℕ → Type 0
 Mine fan x q = MineIn fan x.phase x q
 
-hold_odd : {σ : Setting} {W : World} (x : Seat) (q : ℕ) → Some x.node ≡ Some q → Hold σ W x → lock W.cells q % 2 ≡ 1
-hold_odd {W} x q e k = rw (sym (some_same x.node q e)) (omega (arith, k.mine, k.even))
+-- the node of a seat that holds a latch, and what holds of the seat
+holding_hold : (σ : Setting) (W : World) (h : History) (s : ℕ) (ph : Phase) (x : Seat) (q : ℕ) → SeatIn σ W h s ph x → holding_in ph x.node ≡ Some q → (q ≡ x.node) × Hold σ W x
+holding_hold σ W h s phase.Take x q k e = (sym (same_Some x.node q e), k.1)
+holding_hold σ W h s (phase.Fill p i) x q k e = (sym (same_Some x.node q e), k.1)
+holding_hold σ W h s phase.Release x q k e = (sym (same_Some x.node q e), k.1)
+holding_hold σ W h s phase.Undo x q k e = (sym (same_Some x.node q e), k.1)
+holding_hold σ W h s ph x q k e = absurd (none-some q e)
 
-pub holder_odd : (σ : Setting) (W : World) (h : History) (s : ℕ) (ph : Phase) (x : Seat) (q : ℕ) → SeatIn σ W h s ph x → holding_in ph x.node ≡ Some q → lock W.cells q % 2 ≡ 1
-holder_odd σ W h s phase.Idle x q k e = no_none q e
-holder_odd σ W h s phase.Look x q k e = no_none q e
-holder_odd σ W h s (phase.Copy i) x q k e = no_none q e
-holder_odd σ W h s phase.Check x q k e = no_none q e
-holder_odd σ W h s phase.Latch x q k e = no_none q e
-holder_odd σ W h s phase.Take x q k e = hold_odd x q e k.1
-holder_odd σ W h s (phase.Fill p i) x q k e = hold_odd x q e k.1
-holder_odd σ W h s phase.Release x q k e = hold_odd x q e k.1
-holder_odd σ W h s phase.Undo x q k e = hold_odd x q e k.1
-holder_odd σ W h s (phase.End r) x q k e = no_none q e
+pub holder_locks : (σ : Setting) (W : World) (h : History) (s : ℕ) (ph : Phase) (x : Seat) (q : ℕ) → SeatIn σ W h s ph x → holding_in ph x.node ≡ Some q → (lock W.cells q % 2 ≡ 1) × (lock W.cells q + 1 ≤ σ.top)
+holder_locks σ W h s ph x q k e =
+    let a = holding_hold σ W h s ph x q k e in
+    rw a.0 (omega (arith, a.1.mine, a.1.even), omega (arith, a.1.mine, a.1.low))
 
 pub holder_mine : (fan : ℕ) (ph : Phase) (x : Seat) (q : ℕ) → holding_in ph x.node ≡ Some q → MineIn fan ph x q
-holder_mine fan phase.Idle x q e = no_none q e
-holder_mine fan phase.Look x q e = no_none q e
-holder_mine fan (phase.Copy i) x q e = no_none q e
-holder_mine fan phase.Check x q e = no_none q e
-holder_mine fan phase.Latch x q e = no_none q e
-holder_mine fan phase.Take x q e = sym (some_same x.node q e)
-holder_mine fan (phase.Fill p i) x q e = inl (sym (some_same x.node q e))
-holder_mine fan phase.Release x q e = inl (sym (some_same x.node q e))
-holder_mine fan phase.Undo x q e = sym (some_same x.node q e)
-holder_mine fan (phase.End r) x q e = no_none q e
+holder_mine fan phase.Take x q e = sym (same_Some x.node q e)
+holder_mine fan (phase.Fill p i) x q e = inl (sym (same_Some x.node q e))
+holder_mine fan phase.Release x q e = inl (sym (same_Some x.node q e))
+holder_mine fan phase.Undo x q e = sym (same_Some x.node q e)
+holder_mine fan ph x q e = absurd (none-some q e)
 
 -- a call of seat `s`, which makes the event `e` and leaves the seat `x'`, leads from the world `W` to `W'` as it may
 pub record Good (σ : Setting) (W W' : World) (f : ℕ → Seat) (h : History) (e : Event) (s : ℕ) (x' : Seat) : Type 0 where
@@ -79,11 +73,11 @@ module _ {σ : Setting} {W W' : World} {f : ℕ → Seat} {h : History} {e : Eve
   odd_after : (t q : ℕ) → holds (e ∷ h) t ≡ Some q → lock W'.cells q % 2 ≡ 1
   odd_after t q p =
       elim (cases_eq t s) [
-        | inl z ↦ holder_odd σ W' (e ∷ h) s x'.phase x' q g.mine (sym g.held_now ∙ rw z at p)
+        | inl z ↦ (holder_locks σ W' (e ∷ h) s x'.phase x' q g.mine (sym g.held_now ∙ rw z at p)).0
         | inr d ↦
             (let w : holding (f t) ≡ Some q = sym (held_other t d) ∙ p in
             let same = (g.others t d).own q 0 (holder_mine σ.fan (f t).phase (f t) q w) (omega arith) in
-            rw same (holder_odd σ W h t (f t).phase (f t) q (ι.seats t) w))
+            rw same (holder_locks σ W h t (f t).phase (f t) q (ι.seats t) w).0)
       ]
 
   pub next : (f' : ℕ → Seat) → f' s ≡ x' → ((t : ℕ) → t ≢ s → f' t ≡ f t) → Inv σ W' f' (e ∷ h)
@@ -145,23 +139,19 @@ StepLaws m₀ h e s = FindLaw m₀ h e s × PutLaw m₀ h e s × TurningLaw h e 
 pub with_abandon : (m₀ : ℕ → Option ℕ) (h : History) (e : Event) (s : ℕ) → StepLaws m₀ h e s → AbandonLaw m₀ h e s → LawsAt m₀ h e s
 with_abandon m₀ h e s l a = (l.0, l.1, l.2, a)
 
-t_left : (a b : Bool) → a ≡ false → T (a && b) → ⊥
-t_left true b e z = (let k : ◌≡◌ {A = ℕ} 0 1 = cc in omega arith)
-t_left false b e z = z
-
-t_right : (a b : Bool) → b ≡ false → T (a && b) → ⊥
-t_right true b e z = rw e at z
-t_right false b e z = z
-
 pub laws_unstepped : (m₀ : ℕ → Option ℕ) → (h : History) (e : Event) (s : ℕ) → stepped e s ≡ false → StepLaws m₀ h e s
-laws_unstepped m₀ h e s z = (λ k b t. absurd (t_left (stepped e s) (ends (number e)) z t), λ k v b t. absurd (t_left (stepped e s) (ends (number e)) z t), λ t. absurd (t_left (stepped e s) (tests (place h s) (node e)) z t))
+laws_unstepped m₀ h e s z =
+    (λ k _. fails _ (and_left (stepped e s) (ends (number e)) z), λ k v _. fails _ (and_left (stepped e s) (ends (number e)) z), fails _ (and_left (stepped e s) (tests (place h s) (node e)) z))
+
+pub laws_test : (m₀ : ℕ → Option ℕ) → (h : History) (e : Event) (s : ℕ) → ends (number e) ≡ false → TurningLaw h e s → StepLaws m₀ h e s
+laws_test m₀ h e s a b = (λ k _. fails _ (and_right (stepped e s) (ends (number e)) a), λ k v _. fails _ (and_right (stepped e s) (ends (number e)) a), b)
+
+-- a step that tests nothing
+pub untested : (h : History) (e : Event) (s : ℕ) → tests (place h s) (node e) ≡ false → TurningLaw h e s
+untested h e s b = fails _ (and_right (stepped e s) (tests (place h s) (node e)) b)
 
 pub laws_plain : (m₀ : ℕ → Option ℕ) → (h : History) (e : Event) (s : ℕ) → ends (number e) ≡ false → tests (place h s) (node e) ≡ false → StepLaws m₀ h e s
-laws_plain m₀ h e s a b =
-    (λ k _ t. absurd (t_right (stepped e s) (ends (number e)) a t), λ k v _ t. absurd (t_right (stepped e s) (ends (number e)) a t), λ t. absurd (t_right (stepped e s) (tests (place h s) (node e)) b t))
-
-pub laws_test : (m₀ : ℕ → Option ℕ) → (h : History) (e : Event) (s : ℕ) → ends (number e) ≡ false → (number e ≡ 1) ↔ Disturbed h s (node e) → StepLaws m₀ h e s
-laws_test m₀ h e s a b = (λ k _ t. absurd (t_right (stepped e s) (ends (number e)) a t), λ k v _ t. absurd (t_right (stepped e s) (ends (number e)) a t), λ t. b)
+laws_plain m₀ h e s a b = laws_test m₀ h e s a (untested h e s b)
 
 -- a call that writes cells and leaves the tree
 pub record Writing (σ : Setting) (W : World) (f : ℕ → Seat) (h : History) (e : Event) (s : ℕ) (m' : List ℕ) (c' : ℕ) : Type 0 where

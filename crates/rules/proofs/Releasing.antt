@@ -1,6 +1,7 @@
 -- A release, whatever update of the tree it makes: the written nodes become content, and the other seats' facts last.
 use Rattle.std.proofs.Common.{◌≡◌, ℕ, ◌%◌, ◌<◌, Bool, true, false, cond, ◌&&◌, ◌||◌, eqb, ◌≢◌, ◌⊎◌, List, ◌∷◌, length, Some, None, Option, sym, refl, ap, ◌∙◌, inl, inr, ⊎_elim, arith}
 use Rattle.std.proofs.lemmas.Bool.{cases_eq, cases_Bool, cond-true, cond-false, eq-eqb, eqb-true, or_cases, or_left, or_right, and_parts, and_from, true≢false}
+use Rattle.std.proofs.lemmas.Option.{same_Some}
 use Rattle.tree.specs.Tree as T
 use Rattle.tree.specs.Updates as U
 use Rattle.tree.proofs.Stands.{tree_stands}
@@ -12,7 +13,6 @@ use Rattle.rules.specs.declared.seat.Part.TheVariants.{Left, Right}
 use Rattle.rules.specs.declared.seat.Phase.TheVariants as phase
 use Rattle.rules.specs.declared.report.Report.{Report}
 use Rattle.rules.specs.declared.seat.Seat.{Seat}
-use Rattle.rules.proofs.Basics.{some_same}
 use Rattle.rules.proofs.Cells.{word, put, lock, length_put}
 use Rattle.rules.proofs.Words.{encodes_same}
 use Rattle.rules.proofs.Events.{answer_of}
@@ -148,7 +148,7 @@ module _ {σ : Setting} {W : World} {f : ℕ → Seat} {h : History} (ι : Inv �
           | inr y ↦
               (let d : q ≢ n = λ w. y (inl w) in
               let t = ι.nodes.latched q (rw (u.outside q y) at o) (rw (lk.other q d) at z) in
-              inr (t.0, λ (w : t.0 ≡ s). d (sym (some_same n q (sym own_held ∙ rw w at t.1))), t.1))
+              inr (t.0, λ (w : t.0 ≡ s). d (sym (same_Some n q (sym own_held ∙ rw w at t.1))), t.1))
         ];
         same = λ q o z i b c. lk.rest q i b c ∙ (elim (decide σ.fan (f s) q) [
           | inl y ↦ sym (words_ours q i y)

@@ -39,9 +39,8 @@ pub doing_open : {σ : Setting} {W : World} {h : History} {s : ℕ} {x : Seat} �
 doing_open {σ} {W} {x} d = at_linked σ x.key x.aim (W.tree x.node) d.seated.at
 
 pub begins_same : (m₀ : ℕ → Option ℕ) → (h h' : History) (s : ℕ) (t : Operation) (k : ℕ) → begun h' s ≡ begun h s → publishings m₀ h' s ≡ publishings m₀ h s → Begins m₀ h s t k → Begins m₀ h' s t k
-begins_same m₀ h h' s operation.Find k a b z = (a ∙ z.0, b ∙ z.1)
-begins_same m₀ h h' s (operation.Put v) k a b z = (a ∙ z.0, b ∙ z.1)
 begins_same m₀ h h' s (operation.Post m d) k a b z = ((z.0.0, z.0.1, a ∙ z.0.2), b ∙ z.1, z.2)
+begins_same m₀ h h' s t k a b z = (a ∙ z.0, b ∙ z.1)
 
 pub part_mine : (fan : ℕ) (x : Seat) (p : Part) → Uses fan x p → (part_node p x ≡ x.node) ⊎ Fresh fan x (part_node p x)
 part_mine fan x Left u = inr (u.0, inr (u.1, refl))
@@ -50,14 +49,9 @@ part_mine fan x Own u = inl refl
 
 pub done_small : (p q : Part) (i : ℕ) → i ≤ 32 → done_in p i q ≤ 32
 done_small Left Left i b = b
-done_small Left Right i b = omega arith
-done_small Left Own i b = omega arith
-done_small Right Left i b = omega arith
 done_small Right Right i b = b
-done_small Right Own i b = omega arith
-done_small Own Left i b = omega arith
-done_small Own Right i b = omega arith
 done_small Own Own i b = b
+done_small p q i b = omega arith
 
 module _ {σ : Setting} {W W' : World} {h : History} {e : Event} {a s : ℕ} (other : a ≢ s) (odd : (t q : ℕ) → holds (e ∷ h) t ≡ Some q → lock W'.cells q % 2 ≡ 1) (u : Untouched σ.start e h s) {ph : Phase} (y : Seat) (ρ : Rely σ W W' h e a ph y) where
   doing_lasts : owed_in ph y.operation ≡ post_of y.operation → Doing σ W h s y → Doing σ W' (e ∷ h) s y

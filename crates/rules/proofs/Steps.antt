@@ -20,7 +20,7 @@ use Rattle.rules.proofs.Words.{encodes_same, Shows, shows}
 use Rattle.rules.proofs.Events.{untouched_other, answer_of, holds_own, since_own, begun_own, publishings_own, disturbed_later, disturbed_cases}
 use Rattle.rules.proofs.Inv.{Setting, World, Linked, Open, Begins, Doing, Reading, Hold, SeatIn, Coded, Inv}
 use Rattle.rules.proofs.Rely.{begins_same}
-use Rattle.rules.proofs.Good.{holding, owed, Mine, Good, StepLaws, good_calm, holder_odd}
+use Rattle.rules.proofs.Good.{holding, owed, Mine, Good, StepLaws, good_calm, holder_locks}
 
 -- a step of seat `s` with the report `r`: it leads to a world as it may, and the laws of steps hold of it
 pub record Stepped (σ : Setting) (W : World) (f : ℕ → Seat) (h : History) (s : ℕ) (m' : List ℕ) (x' : Seat) (c' : ℕ) (r : Report) : Type 0 where
@@ -44,14 +44,11 @@ quiet_turned n = record { told_of = refl; two = refl; three = refl; five = refl 
 
 pub quiet_answered : (n : ℕ) (o : Option ℕ) → Quiet (answered n o)
 quiet_answered n None = record { told_of = refl; two = refl; three = refl; five = refl }
-quiet_answered n (Some v) = record { told_of = refl; two = refl; three = refl; five = refl }
+quiet_answered n o = record { told_of = refl; two = refl; three = refl; five = refl }
 
 pub quiet_ended : (n : ℕ) (o : Outcome) → Quiet (Ended n o)
 quiet_ended n outcome.Stored = record { told_of = refl; two = refl; three = refl; five = refl }
-quiet_ended n (outcome.Replaced v) = record { told_of = refl; two = refl; three = refl; five = refl }
-quiet_ended n outcome.Untold = record { told_of = refl; two = refl; three = refl; five = refl }
-quiet_ended n outcome.Full = record { told_of = refl; two = refl; three = refl; five = refl }
-quiet_ended n outcome.Worn = record { told_of = refl; two = refl; three = refl; five = refl }
+quiet_ended n o = record { told_of = refl; two = refl; three = refl; five = refl }
 
 module _ (h : History) (s : ℕ) (r : Report) where
   pub holds_other : (t : ℕ) → t ≢ s → holds (answer_of (Step s) r ∷ h) t ≡ holds h t
@@ -94,7 +91,7 @@ pub record Seen (σ : Setting) (W : World) (x : Seat) : Type 0 where
 
 module _ {σ : Setting} {W : World} {f : ℕ → Seat} {h : History} (ι : Inv σ W f h) (s : ℕ) (b8 : s < 8) where
   pub odd_now : (t q : ℕ) → holds h t ≡ Some q → lock W.cells q % 2 ≡ 1
-  odd_now t q p = holder_odd σ W h t (f t).phase (f t) q (ι.seats t) (sym (ι.held_by t) ∙ p)
+  odd_now t q p = (holder_locks σ W h t (f t).phase (f t) q (ι.seats t) (sym (ι.held_by t) ∙ p)).0
 
   pub doing_quiet : (r : Report) → Quiet r → (x : Seat) → Doing σ W h s x → Begins σ.start (answer_of (Step s) r ∷ h) s x.operation x.key
   doing_quiet r u x d = begins_same σ.start h (answer_of (Step s) r ∷ h) s x.operation x.key (begun_own h s r u.told_of) (publishings_quiet h s r u σ.start) d.begins

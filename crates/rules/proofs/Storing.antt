@@ -1,6 +1,7 @@
 -- The deeds of a put and of a posting.
 use Rattle.std.proofs.Common.{◌≡◌, ℕ, zero, suc, ◌<◌, ◌≤◌, true, false, cond, eqb, List, [], ◌∷◌, length, Some, None, Option, sym, refl, ap, ◌∙◌, subst, arith}
 use Rattle.std.proofs.lemmas.Bool.{cond-true, cond-false, eq-eqb, ne_eqb, le-ltb, ltb-true}
+use Rattle.std.proofs.lemmas.Option.{none-some}
 use Rattle.tree.specs.Node as N
 use Rattle.tree.specs.Tree as T
 use Rattle.tree.specs.Updates as U
@@ -132,7 +133,7 @@ module _ {σ : Setting} {W : World} {f : ℕ → Seat} {h : History} (ι : Inv �
           grows = λ z g d c i R.
               let K = S.stores_grows W.tree g d c i sh.node_is sh.from sh.to (f s).key v key_k R ι.nodes.sound (rw z at at_0) level_0 covers_y in
               (K.0, K.1 (plain_map σ.start h) (plain_map σ.start (answer_of (Step s) r ∷ h)) takes_p ι.nodes.answers);
-          free = λ t d q a b. let z : ◌≡◌ {A = ℕ} 0 1 = cc in omega arith;
+          free = λ t d q a b. none-some q b;
           gone = holds_own h s r refl;
           now = place_own h s r refl;
           ended = ended_p;

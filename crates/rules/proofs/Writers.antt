@@ -2,6 +2,7 @@
 use Rattle.std.proofs.Common.{◌≡◌, ℕ, ◌+◌, ◌*◌, ◌%◌, ◌<◌, ◌≤◌, Bool, true, false, cond, ◌≢◌, ◌⊎◌, List, ◌∷◌, length, drop, Some, None, sym, refl, ap, ◌∙◌, inl, inr, ⊎_elim, arith}
 use lib.Seq.{take-append_seam}
 use Rattle.std.proofs.lemmas.Bool.{cases_eq, cond_both, eq-eqb}
+use Rattle.std.proofs.lemmas.Option.{none-some, same_Some}
 use Rattle.rules.specs.Seats.{in_phase, with_draft}
 use Rattle.rules.specs.Steps.{version, is_root, splits, stopped, content, draft_of, with_nodes, needed}
 use Rattle.rules.specs.Histories.{History, Step}
@@ -13,7 +14,7 @@ use Rattle.rules.specs.declared.seat.Phase.{Phase}
 use Rattle.rules.specs.declared.seat.Phase.TheVariants as phase
 use Rattle.rules.specs.declared.report.Report.TheVariants.{GoneOn, Latched, Unchanged}
 use Rattle.rules.specs.declared.seat.Seat.{Seat}
-use Rattle.rules.proofs.Basics.{some_same, no_none, both}
+use Rattle.rules.proofs.Basics.{both}
 use Rattle.rules.proofs.Cells.{word, put, lock, word_put, word_put_word, word_put_node, length_put}
 use Rattle.rules.proofs.Events.{answer_of, holds_own, place_own, begun_own, publishings_own}
 use Rattle.rules.proofs.Inv.{Setting, World, Open, post_of, Fresh, MineIn, Uses, first, done_in, Filled, Begins, Planned, Hold, Taken, SeatIn, Inv}
@@ -24,29 +25,19 @@ use Rattle.rules.proofs.Readers.{stopped_paid}
 
 -- nobody writes a linked node with no latch
 pub nobody : (σ : Setting) (W : World) (h : History) (t : ℕ) (ph : Phase) (y : Seat) (q : ℕ) → SeatIn σ W h t ph y → MineIn σ.fan ph y q → Open W q → lock W.cells q % 2 ≡ 0 → ⊥
-nobody σ W h t phase.Idle y q k m o l = m
-nobody σ W h t phase.Look y q k m o l = m
-nobody σ W h t (phase.Copy i) y q k m o l = m
-nobody σ W h t phase.Check y q k m o l = m
-nobody σ W h t phase.Latch y q k m o l = m
 nobody σ W h t phase.Take y q k m o l = omega (arith, k.1.mine, k.1.even, ap (lock W.cells) m)
 nobody σ W h t (phase.Fill p i) y q k m o l = ⊎_elim (λ (z : q ≡ y.node). omega (arith, k.1.mine, k.1.even, ap (lock W.cells) z)) (λ z. k.3.hidden q z o) m
 nobody σ W h t phase.Release y q k m o l = ⊎_elim (λ (z : q ≡ y.node). omega (arith, k.1.mine, k.1.even, ap (lock W.cells) z)) (λ z. k.3.hidden q z o) m
 nobody σ W h t phase.Undo y q k m o l = omega (arith, k.1.mine, k.1.even, ap (lock W.cells) m)
-nobody σ W h t (phase.End r) y q k m o l = m
+nobody σ W h t ph y q k m o l = m
 
 -- a seat's nodes are in use
 pub mine_below : (σ : Setting) (W : World) (h : History) (t : ℕ) (ph : Phase) (y : Seat) (q : ℕ) → ((p : ℕ) → Open W p → p < W.count) → SeatIn σ W h t ph y → MineIn σ.fan ph y q → q < W.count
-mine_below σ W h t phase.Idle y q b k m = absurd m
-mine_below σ W h t phase.Look y q b k m = absurd m
-mine_below σ W h t (phase.Copy i) y q b k m = absurd m
-mine_below σ W h t phase.Check y q b k m = absurd m
-mine_below σ W h t phase.Latch y q b k m = absurd m
 mine_below σ W h t phase.Take y q b k m = rw m (b y.node (doing_open k.0))
 mine_below σ W h t (phase.Fill p i) y q b k m = ⊎_elim (λ (z : q ≡ y.node). rw z (b y.node (doing_open k.0))) (k.3.inside q) m
 mine_below σ W h t phase.Release y q b k m = ⊎_elim (λ (z : q ≡ y.node). rw z (b y.node (doing_open k.0))) (k.3.inside q) m
 mine_below σ W h t phase.Undo y q b k m = rw m (b y.node (doing_open k.0))
-mine_below σ W h t (phase.End r) y q b k m = absurd m
+mine_below σ W h t ph y q b k m = absurd m
 
 pub record SetLock (m m' : List ℕ) (n v : ℕ) : Type 0 where
   pub here : lock m' n ≡ v
@@ -103,7 +94,7 @@ module _ {σ : Setting} {W : World} {f : ℕ → Seat} {h : History} (ι : Inv �
     doing_l x' z = begins_same σ.start h (answer_of (Step s) (Latched (f s).node) ∷ h) s (f s).operation (f s).key (begun_own h s (Latched (f s).node) refl) (publishings_own h s (Latched (f s).node) refl σ.start) k.0.begins
 
     laws_l : StepLaws σ.start h (answer_of (Step s) (Latched (f s).node)) s
-    laws_l = laws_test σ.start h (answer_of (Step s) (Latched (f s).node)) s refl (λ z. absurd (omega arith), λ d. absurd (k.1.calm l d))
+    laws_l = laws_test σ.start h (answer_of (Step s) (Latched (f s).node)) s refl (λ _. (λ z. absurd (omega arith), λ d. absurd (k.1.calm l d)))
 
     latched_l : (q : ℕ) → Open W q → lock (put W.cells (f s).node 0 (version (f s) + 1)) q % 2 ≡ 1 → (Some (f s).node ≡ Some q) ⊎ ((t : ℕ) × (t ≢ s) × (holding (f t) ≡ Some q))
     latched_l q o z =
@@ -112,7 +103,7 @@ module _ {σ : Setting} {W : World} {f : ℕ → Seat} {h : History} (ι : Inv �
           | inr d ↦
               (let t = ι.nodes.latched q o (rw (lk.other q d) at z) in
               let free : holding (f s) ≡ None = rw e refl in
-              inr (t.0, λ (y : t.0 ≡ s). no_none q (sym free ∙ rw y at t.1), t.1))
+              inr (t.0, λ (y : t.0 ≡ s). none-some q (sym free ∙ rw y at t.1), t.1))
         ]
 
     hold_l : (ph : Phase) → Hold σ (with_cells W (put W.cells (f s).node 0 (version (f s) + 1)) W.count) (with_draft (f s) (draft_of σ.order.before σ.fan (f s)) ph)
@@ -342,7 +333,7 @@ module _ {σ : Setting} {W : World} {f : ℕ → Seat} {h : History} (ι : Inv �
               let d : q ≢ n = λ y. (let z' : lock m' n % 2 ≡ 1 = rw y at z in omega (arith, lk.here, a.planned.frees, a.even)) in
               let t = ι.nodes.latched q o (rw (lk.other q d) at z) in
               let own : holding x ≡ Some n = rw e refl in
-              inr (t.0, λ (y : t.0 ≡ s). d (sym (some_same n q (sym own ∙ rw y at t.1))), t.1))
+              inr (t.0, λ (y : t.0 ≡ s). d (sym (same_Some n q (sym own ∙ rw y at t.1))), t.1))
               (λ _. refl) (
                 stopped_paid ι s b8 x.operation outcome.Full x.key (ev ∷ h) refl a.writes
                     (begins_same σ.start h (ev ∷ h) s x.operation x.key (begun_own h s r refl) (publishings_own h s r refl σ.start) k.0.begins),
@@ -350,7 +341,7 @@ module _ {σ : Setting} {W : World} {f : ℕ → Seat} {h : History} (ι : Inv �
               )
               (holds_own h s r refl)
               (λ t b q y m. y)
-              (λ t b q y. no_none q y)
+              (λ t b q y. absurd (none-some q y))
               (λ _. ι.sizes s b8);
           laws = laws_plain σ.start h ev s refl (rw k.2 refl);
         }
