@@ -2,6 +2,7 @@
 use Rattle.std.proofs.Common.{◌≡◌, ℕ, zero, suc, ◌+◌, ◌-◌, ◌^◌, ◌<◌, ◌≤◌, true, false, cond, ltb, ◌≢◌, List, [], ◌∷◌, length, take, drop, Some, None, Option, sym, refl, ap, ◌∙◌, inl, inr, arith, length-drop, length-take}
 use Rattle.std.proofs.lemmas.Bool.{cond_both, cond-true, cond-false, eqb-true, eqb-false, ltb-true, ltb-false}
 use Rattle.std.proofs.lemmas.Option.{none-some}
+use Rattle.std.proofs.lemmas.List.{length-map, take-map, drop-map}
 use Rattle.tree.specs.Node as N
 use Rattle.tree.specs.Tree as T
 use Rattle.tree.specs.Updates as U
@@ -23,7 +24,7 @@ use Rattle.rules.specs.declared.report.Report.{Report}
 use Rattle.rules.specs.declared.seat.Seat.{Seat}
 use Rattle.rules.proofs.Basics.{both}
 use Rattle.rules.proofs.Cells.{word, put}
-use Rattle.rules.proofs.Entries.{row, length_row, row_take, row_drop, last_is}
+use Rattle.rules.proofs.Entries.{as_entry, row, last_is}
 use Rattle.rules.proofs.Words.{encodes_same, encodes_as}
 use Rattle.rules.proofs.Events.{answer_of}
 use Rattle.rules.proofs.Inv.{Setting, World, Linked, Open, post_of, owed_in, Uses, first, Paid, Doing, SeatIn, Coded, Inv}
@@ -83,7 +84,7 @@ module _ {σ : Setting} {W : World} {f : ℕ → Seat} {h : History} (ι : Inv �
     row_drafted = ap row k.1.planned.rows_are ∙ D.rows_are
 
     length_rows : length D.rows ≡ (f s).draft.len
-    length_rows = ap length (sym D.rows_are) ∙ length_row (content σ.order.before (f s)) ∙ sym k.1.planned.len_is
+    length_rows = ap length (sym D.rows_are) ∙ length-map (content σ.order.before (f s)) as_entry ∙ sym k.1.planned.len_is
 
     length_drafted : length (drafted (f s).draft) ≡ (f s).draft.len
     length_drafted = ap length k.1.planned.rows_are ∙ sym k.1.planned.len_is
@@ -95,7 +96,7 @@ module _ {σ : Setting} {W : World} {f : ℕ → Seat} {h : History} (ι : Inv �
         → length es ≤ σ.fan → l ≡ y.level → i ≡ y.link → g ≡ y.high → row es ≡ y.entries → Coded σ W (λ j. word W.cells q j) (T.held y a b)
     codes q p y a b l i g es at u is few x1 x2 x3 x4 = (
       encodes_same (node_word l i g es) (λ j. word W.cells q j) y (λ j c d. rw at (k.4 p u j (low p c) d) ∙ is j) (encodes_as l i g es y (omega (arith, σ.most)) x1 x2 x3 x4),
-      rw (sym x4) (rw length_row few),
+      rw (sym x4) (rw length-map few),
     )
       where
         low : {j : ℕ} (p : Part) → 0 < j → first p ≤ j
@@ -183,10 +184,10 @@ module _ {σ : Setting} {W : World} {f : ℕ → Seat} {h : History} (ι : Inv �
       posts_edge = edge_is
 
       left_rows : row (left_entries (f s).draft) ≡ take (left_count σ.fan) D.rows
-      left_rows = rw k.1.planned.left_is (row_take (left_count σ.fan) (drafted (f s).draft) ∙ ap (take (left_count σ.fan)) row_drafted)
+      left_rows = rw k.1.planned.left_is (sym (take-map as_entry (left_count σ.fan) (drafted (f s).draft)) ∙ ap (take (left_count σ.fan)) row_drafted)
 
       right_rows : row (right_entries (f s).draft) ≡ drop (left_count σ.fan) D.rows
-      right_rows = rw k.1.planned.left_is (row_drop (left_count σ.fan) (drafted (f s).draft) ∙ ap (drop (left_count σ.fan)) row_drafted)
+      right_rows = rw k.1.planned.left_is (sym (drop-map as_entry (left_count σ.fan) (drafted (f s).draft)) ∙ ap (drop (left_count σ.fan)) row_drafted)
 
       left_few : length (left_entries (f s).draft) ≤ σ.fan
       left_few = rw length-take (omega (arith, σ.least, k.1.planned.left_is))

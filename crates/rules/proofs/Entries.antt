@@ -1,5 +1,5 @@
 -- A node's entries are those of the tree: choosing a child, finding, storing and posting agree on both sides.
-use Rattle.std.proofs.Common.{◌≡◌, ℕ, zero, suc, ◌<◌, Bool, true, false, cond, eqb, ◌≢◌, List, [], ◌∷◌, length, get_or, take, drop, None, sym, refl, ap, ◌∙◌, inl, inr, arith}
+use Rattle.std.proofs.Common.{◌≡◌, ℕ, zero, suc, ◌<◌, Bool, true, false, cond, eqb, ◌≢◌, List, [], ◌∷◌, map, length, get_or, take, drop, None, sym, refl, ap, ◌∙◌, inl, inr, arith}
 use Rattle.std.proofs.lemmas.Bool.{eqb-true, ne_eqb, cases_Bool, ltb-false}
 use Rattle.std.proofs.lemmas.Bool.Decides.{nat_tests}
 use Rattle.tree.specs.Node as N
@@ -7,28 +7,11 @@ use Rattle.tree.specs.Tree as T
 use Rattle.rules.specs.Nodes.{entry, child, found, put_in, post_in}
 use Rattle.rules.specs.declared.seat.Entry.{Entry}
 
+abbrev pub as_entry : Entry → N.Entry
+as_entry e = N.entry e.key e.value
+
 abbrev pub row : List Entry → List N.Entry
-row [] = []
-row (e ∷ es) = N.entry e.key e.value ∷ row es
-
-pub length_row : (es : List Entry) → length (row es) ≡ length es
-length_row [] = refl
-length_row (e ∷ es) = ap suc (length_row es)
-
-pub row_take : (n : ℕ) (es : List Entry) → row (take n es) ≡ take n (row es)
-row_take zero es = refl
-row_take (suc n) [] = refl
-row_take (suc n) (e ∷ es) = rw (row_take n es) refl
-
-pub row_drop : (n : ℕ) (es : List Entry) → row (drop n es) ≡ drop n (row es)
-row_drop zero es = refl
-row_drop (suc n) [] = refl
-row_drop (suc n) (e ∷ es) = row_drop n es
-
-pub get_or_row : (es : List Entry) (j : ℕ) → get_or (row es) j (N.entry 0 0) ≡ N.entry (get_or es j (entry 0 0)).key (get_or es j (entry 0 0)).value
-get_or_row [] j = refl
-get_or_row (e ∷ es) zero = refl
-get_or_row (e ∷ es) (suc j) = get_or_row es j
+row es = map as_entry es
 
 pub last_is : (i : ℕ) (es : List Entry) → i < length es → N.last_key (take (suc i) (row es)) ≡ (get_or es i (entry 0 0)).key
 last_is i [] q = absurd (omega arith)

@@ -2,6 +2,7 @@
 use Rattle.std.proofs.Common.{◌≡◌, ℕ, zero, suc, ◌<◌, ◌≤◌, true, false, cond, eqb, List, [], ◌∷◌, length, Some, None, Option, sym, refl, ap, ◌∙◌, subst, arith}
 use Rattle.std.proofs.lemmas.Bool.{cond-true, cond-false, eq-eqb, ne_eqb, le-ltb, ltb-true}
 use Rattle.std.proofs.lemmas.Option.{none-some}
+use Rattle.std.proofs.lemmas.List.{length-map}
 use Rattle.tree.specs.Node as N
 use Rattle.tree.specs.Tree as T
 use Rattle.tree.specs.Updates as U
@@ -20,7 +21,7 @@ use Rattle.rules.specs.declared.seat.Phase.TheVariants as phase
 use Rattle.rules.specs.declared.report.Report.TheVariants.{Published, Posted}
 use Rattle.rules.specs.declared.seat.Seat.{Seat}
 use Rattle.rules.proofs.Cells.{put}
-use Rattle.rules.proofs.Entries.{row, length_row, row_put, row_post, found_new, found_is}
+use Rattle.rules.proofs.Entries.{as_entry, row, row_put, row_post, found_new, found_is}
 use Rattle.rules.proofs.Events.{answer_of, holds_own, place_own, begun_own, publishings_own}
 use Rattle.rules.proofs.Inv.{Setting, World, post_of, Begins, paid, Paid, SeatIn, Inv}
 use Rattle.rules.proofs.Good.{owed, laws_plain, tells_same}
@@ -42,7 +43,7 @@ module _ {σ : Setting} {W : World} {f : ℕ → Seat} {h : History} (ι : Inv �
   key_k = k.0.seated.key
 
   entries_few : length (entries (f s).copy) ≤ σ.fan
-  entries_few = let sh = shown ι s b8 e k in omega (arith, sh.few, length_row (entries (f s).copy), ap length sh.shown.row_is)
+  entries_few = let sh = shown ι s b8 e k in omega (arith, sh.few, length-map (entries (f s).copy) as_entry, ap length sh.shown.row_is)
 
   module _ (v : ℕ) (op : (f s).operation ≡ operation.Put v) where
     begins_p : Begins σ.start h s (operation.Put v) (f s).key
@@ -66,7 +67,7 @@ module _ {σ : Setting} {W : World} {f : ℕ → Seat} {h : History} (ι : Inv �
     few_p : length (content σ.order.before (f s)) ≤ suc σ.fan
     few_p =
         let sh = shown ι s b8 e k in
-        omega (arith, sh.few, (tree_stands σ.order).fits.inserted sh.node_is.entries (f s).key v, ap length rows_p, length_row (content σ.order.before (f s)))
+        omega (arith, sh.few, (tree_stands σ.order).fits.inserted sh.node_is.entries (f s).key v, ap length rows_p, length-map (content σ.order.before (f s)) as_entry)
 
     at_0 : T.At σ.order (f s).key 0 (W.tree (f s).node)
     at_0 = rw aim_0 at k.0.seated.at
@@ -164,7 +165,7 @@ module _ {σ : Setting} {W : World} {f : ℕ → Seat} {h : History} (ι : Inv �
     few_q : length (content σ.order.before (f s)) ≤ suc σ.fan
     few_q =
         let sh = shown ι s b8 e k in
-        omega (arith, sh.few, (tree_stands σ.order).fits.one_more sh.node_is.entries m d, ap length rows_q, length_row (content σ.order.before (f s)))
+        omega (arith, sh.few, (tree_stands σ.order).fits.one_more sh.node_is.entries m d, ap length rows_q, length-map (content σ.order.before (f s)) as_entry)
 
     at_q : T.At σ.order m (suc pend.0) (W.tree (f s).node)
     at_q = subst (λ (j : ℕ). T.At σ.order j (suc pend.0) (W.tree (f s).node)) begins_q.2 (subst (λ (v : ℕ). T.At σ.order (f s).key v (W.tree (f s).node)) pend.1 k.0.seated.at)
