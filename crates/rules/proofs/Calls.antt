@@ -38,7 +38,7 @@ use Rattle.rules.proofs.Steps.{Stepped, odd_now}
 use Rattle.rules.proofs.Readers.{look, copy, check, lost, wears, end}
 use Rattle.rules.proofs.Writers.{wins, gives_up, takes_nodes, undoes}
 use Rattle.rules.proofs.Fills.{fills}
-use Rattle.rules.proofs.Storing.{release}
+use Rattle.rules.proofs.Storing.{by_operation}
 use Rattle.rules.proofs.Abandoning.{PublishedAs, begun_published, ended_published, abandon_law}
 
 -- a state of this setting
@@ -244,7 +244,7 @@ module _ (σ : Setting) (iskey : ℕ → Bool) (keyed : (k : ℕ) → iskey k �
     step_in phase.Latch e k = latch_kept e k
     step_in phase.Take e k = take_kept e k
     step_in (phase.Fill p j) e k = stores (part_node p x) j (fill_word σ.fan x p j) _ (fills ι i b8 p j e k)
-    step_in phase.Release e k = stores x.node 0 x.draft.freeing _ (release ι i b8 e k)
+    step_in phase.Release e k = stores x.node 0 x.draft.freeing _ (by_operation ι i b8 e k x.operation refl)
     step_in phase.Undo e k = stores x.node 0 x.draft.freeing _ (undoes ι i b8 e k)
     step_in (phase.End r) e k = moved_kept None m _ refl (end ι i b8 r e k)
 

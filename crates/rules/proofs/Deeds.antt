@@ -15,6 +15,7 @@ use Rattle.rules.specs.Events.{begun, putting}
 use Rattle.rules.specs.PlainMap.{publishings, plain_map}
 use Rattle.rules.specs.Latches.{holds, place, released}
 use Rattle.rules.specs.declared.seat.Entry.{Entry}
+use Rattle.rules.specs.declared.report.Outcome.{Outcome}
 use Rattle.rules.specs.declared.report.Outcome.TheVariants as outcome
 use Rattle.rules.specs.declared.seat.Part.{Part}
 use Rattle.rules.specs.declared.seat.Part.TheVariants.{Left, Right, Own}
@@ -32,6 +33,10 @@ use Rattle.rules.proofs.Rely.{doing_open}
 use Rattle.rules.proofs.Good.{owed, StepLaws}
 use Rattle.rules.proofs.Steps.{Stepped, Seen, seen}
 use Rattle.rules.proofs.Releasing.{written, Update, released_good}
+
+-- a seat after its release
+abbrev pub after_release : ℕ → Seat → Seat
+after_release fan x = cond (splits fan x.draft) (cond (is_root x) (in_phase x (phase.End x.draft.outcome)) (posts_on x)) (in_phase x (phase.End x.draft.outcome))
 
 -- a node that a seat posts is linked
 is_linked : (v lo : ℕ) (p : T.Place) → T.Is v lo p → Linked p
@@ -106,23 +111,13 @@ module _ {σ : Setting} {W : World} {f : ℕ → Seat} {h : History} (ι : Inv �
 
     module _ (g : ℕ → T.Place) (u : Update σ W (f s) g D.settled (plain_map σ.start (answer_of (Step s) r ∷ h))) where
       -- the put ends
-      ends : Stepped σ W f h s (put W.cells (f s).node 0 (f s).draft.freeing) (in_phase (f s) (phase.End (f s).draft.outcome)) W.count r
-      ends =
+      ends : (o : Outcome) → Paid σ.start (answer_of (Step s) r ∷ h) s o → Stepped σ W f h s (put W.cells (f s).node 0 (f s).draft.freeing) (in_phase (f s) (phase.End o)) W.count r
+      ends o paid =
           record {
             words = written σ.fan W (f s);
             tree = g;
-            good = released_good ι s b8 e k g D.settled r u (in_phase (f s) (phase.End (f s).draft.outcome)) D.gone refl (λ q z. z) D.free (λ t d q z. absurd (none-some q z))
-                (D.ended, rw D.now refl) (ι.sizes s b8);
-            laws = D.laws;
-          }
-
-      untold : splits σ.fan (f s).draft ≡ true → Stepped σ W f h s (put W.cells (f s).node 0 (f s).draft.freeing) (in_phase (f s) (phase.End outcome.Untold)) W.count r
-      untold z =
-          record {
-            words = written σ.fan W (f s);
-            tree = g;
-            good = released_good ι s b8 e k g D.settled r u (in_phase (f s) (phase.End outcome.Untold)) D.gone refl (λ q z. z) D.free (λ t d q z. absurd (none-some q z))
-                (D.was_new z, rw D.now refl) (ι.sizes s b8);
+            good = released_good ι s b8 e k g D.settled r u (in_phase (f s) (phase.End o)) D.gone refl (λ q z. z) D.free (λ t d q z. absurd (none-some q z))
+                (paid, rw D.now refl) (ι.sizes s b8);
             laws = D.laws;
           }
 
@@ -163,6 +158,7 @@ module _ {σ : Setting} {W : World} {f : ℕ → Seat} {h : History} (ι : Inv �
           linked = rw R.now tt;
           answers = K.1;
         })
+        (f s).draft.outcome D.ended
 
     module _ (z : splits σ.fan (f s).draft ≡ true) where
       long : σ.fan < (f s).draft.len
@@ -232,7 +228,7 @@ module _ {σ : Setting} {W : World} {f : ℕ → Seat} {h : History} (ι : Inv �
           cond_both (ltb ((f s).aim + 1) (2 ^ 64)) (posting (f s) (posted_key (f s)) d) (in_phase (f s) (phase.End outcome.Untold))
           (λ x'. Stepped σ W f h s (put W.cells n 0 (f s).draft.freeing) x' W.count r)
           (λ _. goes_posting g u z m (posted_key (f s)) posts_edge (rw aim_is S))
-          (λ _. untold g u z)
+          (λ _. ends g u outcome.Untold (D.was_new z))
 
       root_split : is_root (f s) ≡ true
           → Stepped σ W f h s (put W.cells (f s).node 0 (f s).draft.freeing) (in_phase (f s) (phase.End (f s).draft.outcome)) W.count r
@@ -272,11 +268,9 @@ module _ {σ : Setting} {W : World} {f : ℕ → Seat} {h : History} (ι : Inv �
             linked = rw (ap g n0 ∙ R.now) tt;
             answers = K.1;
           } in
-          ends g u
+          ends g u (f s).draft.outcome D.ended
 
-    pub releases_by : Stepped σ W f h s (put W.cells (f s).node 0 (f s).draft.freeing)
-        (cond (splits σ.fan (f s).draft) (cond (is_root (f s)) (in_phase (f s) (phase.End (f s).draft.outcome)) (posts_on (f s)))
-        (in_phase (f s) (phase.End (f s).draft.outcome))) W.count r
+    pub releases_by : Stepped σ W f h s (put W.cells (f s).node 0 (f s).draft.freeing) (after_release σ.fan (f s)) W.count r
     releases_by =
         cond_both (splits σ.fan (f s).draft) _ _ (λ x'. Stepped σ W f h s (put W.cells (f s).node 0 (f s).draft.freeing) x' W.count r)
         (λ z. cond_both (is_root (f s)) _ _ (λ x'. Stepped σ W f h s (put W.cells (f s).node 0 (f s).draft.freeing) x' W.count r) (root_split z) (split z))

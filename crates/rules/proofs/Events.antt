@@ -1,6 +1,6 @@
 -- One event more: what holds of the latches, the places in reading, the begins and the publishings of each seat after it.
 use Rattle.std.proofs.Common.{◌≡◌, ℕ, zero, suc, ◌≤◌, Bool, true, false, cond, ◌&&◌, eqb, ltb, leb, ◌≢◌, ◌⊎◌, [], ◌∷◌, drop, Some, None, Ok, Err, Option, refl, ◌∙◌, inl, inr, arith}
-use Rattle.std.proofs.lemmas.Bool.{eq-eqb, ne_eqb, cond-true, cond-false, and_right, and_left, le-ltb}
+use Rattle.std.proofs.lemmas.Bool.{eq-eqb, ne_eqb, cond_both, cond-true, cond-false, and_right, and_left, le-ltb}
 use Rattle.rules.specs.declared.refusal.Refusal.{Refusal}
 use Rattle.rules.specs.declared.refusal.Refusal.TheVariants as refusal
 use Rattle.rules.specs.declared.report.Report.{Report}
@@ -44,14 +44,10 @@ not_begins (BeginFind i k) s b d = cond-false (eqb s i) _ _ (ne_eqb s i d)
 not_begins (BeginPut i k v) s b d = cond-false (eqb s i) _ _ (ne_eqb s i d)
 not_begins c s b d = refl
 
-either : {A : Type 0} (b : Bool) (x y : A) → x ≡ y → cond b x y ≡ y
-either true x y e = e
-either false x y e = refl
-
 pub untouched_other : (m₀ : ℕ → Option ℕ) → (e : Event) (h : History) (s : ℕ) → s ≢ seat_of e.call → Untouched m₀ e h s
 untouched_other m₀ e h s d =
     untouched m₀ e h s (and_left (steps e.call s) (accepted e) (not_steps e.call s d)) (and_right (accepted e) (restarts e.call s) (not_restarts e.call s d))
-    (either (accepted e) _ _ (not_begins e.call s (begun h s) d))
+    (cond_both (accepted e) _ _ (λ b. b ≡ begun h s) (λ _. not_begins e.call s (begun h s) d) (λ _. refl))
 
 refused_number : (f : Refusal) → 21 ≤ refusal_number f
 refused_number refusal.Unformatted = omega arith
@@ -89,7 +85,7 @@ module _ (h : History) (s : ℕ) (r : Report) (told_of : ltb (told r).0 21 ≡ t
   since_own = rw own refl
 
   pub begun_own : begun (answer_of (Step s) r ∷ h) s ≡ begun h s
-  begun_own = either (accepted (answer_of (Step s) r)) _ _ refl
+  begun_own = cond-true (accepted (answer_of (Step s) r)) _ _ told_of
 
   pub publishings_own : (m₀ : ℕ → Option ℕ) → publishings m₀ (answer_of (Step s) r ∷ h) s ≡ cond (eqb (told r).0 3) (plain_map m₀ h (sought (begun h s)) ∷ publishings m₀ h s) (publishings m₀ h s)
   publishings_own m₀ = cond-false (accepted (answer_of (Step s) r) && false) _ _ (and_right (accepted (answer_of (Step s) r)) false refl) ∙ rw own refl

@@ -16,7 +16,7 @@ use Rattle.rules.proofs.Events.{answer_of, place_own}
 use Rattle.rules.proofs.Inv.{Setting, World, Open, holding_in, post_of, owed_in, Fresh, MineIn, Uses, first, done_in, Filled, Doing, Hold, Taken, SeatIn, Inv}
 use Rattle.rules.proofs.Rely.{doing_open, part_mine}
 use Rattle.rules.proofs.Good.{holding, owed, Mine, laws_plain, Writing, with_cells, good_write}
-use Rattle.rules.proofs.Steps.{Stepped, quiet_gone, holds_quiet, plain_quiet, doing_in}
+use Rattle.rules.proofs.Steps.{Stepped, stepped_as, quiet_gone, holds_quiet, plain_quiet, doing_in}
 use Rattle.rules.proofs.Writers.{mine_below, in_cells}
 
 pub filled_in : (fan : ℕ) (m : List ℕ) (x : Seat) (d : Part → ℕ) (ph : Phase) → Filled fan m x d → Filled fan m (in_phase x ph) d
@@ -126,19 +126,15 @@ module _ {σ : Setting} {W : World} {f : ℕ → Seat} {h : History} (ι : Inv �
       let r = GoneOn x.node in
       let ev = answer_of (Step s) r in
       let own : holding x ≡ Some x.node = rw e refl in
-      record {
-        words = W.words;
-        tree = W.tree;
-        good = good_write ι ev s (in_phase x ph) (put W.cells (part_node p x) i (fill_word σ.fan x p i)) W.count (writes ι s b8 p i e k)
+      stepped_as (good_write ι ev s (in_phase x ph) (put W.cells (part_node p x) i (fill_word σ.fan x p i)) W.count (writes ι s b8 p i e k)
             (λ q o l.
             let t = ι.nodes.latched q o (rw (open_lock ι s b8 p i e k q o) at l) in
             elim (cases_eq t.0 s) [ inl y ↦ inl (hp ∙ sym own ∙ rw y at t.1) | inr d ↦ inr (t.0, d, t.1) ])
             (plain_quiet h s r (quiet_gone x.node) σ.start) z (holds_quiet h s r (quiet_gone x.node) s ∙ ι.held_by s ∙ own ∙ sym hp)
             (λ t d q y. ι.apart s t d q (mp q y))
             (λ t d q y. ι.owes s t d q (sym op ∙ y))
-            (λ _. ι.sizes s b8);
-        laws = laws_plain σ.start h ev s refl (rw k.2 refl);
-      }
+            (λ _. ι.sizes s b8))
+        (laws_plain σ.start h ev s refl (rw k.2 refl))
 
   owes_f : post_of (f s).operation ≡ owed (f s)
   owes_f = rw e refl

@@ -24,12 +24,13 @@ use Rattle.rules.specs.declared.report.Report.{Report}
 use Rattle.rules.specs.declared.report.Report.TheVariants.{GoneOn, TurnedBack, Ended}
 use Rattle.rules.specs.declared.seat.Seat.{Seat}
 use Rattle.rules.proofs.Cells.{word, lock}
-use Rattle.rules.proofs.Entries.{row, row_child, found_is}
+use Rattle.rules.proofs.Entries.{row_child}
+use Rattle.rules.proofs.Words.{covers_shown}
 use Rattle.rules.proofs.Events.{answer_of, not_me, place_own, since_own, disturbed_looked, disturbed_before}
 use Rattle.rules.proofs.Inv.{Setting, World, Open, holding_in, post_of, owed_in, Begins, Writes, paid, Paid, Doing, Reading, Hold, SeatIn, Inv}
 use Rattle.rules.proofs.Rely.{doing_open}
 use Rattle.rules.proofs.Good.{holding, owed, StepLaws, holder_locks, laws_plain, laws_test, untested}
-use Rattle.rules.proofs.Steps.{Stepped, quiet_gone, quiet_turned, quiet_answered, quiet_ended, holds_quiet, reading_in, Seen, odd_now, doing_quiet, doing_in, reading_own, stepped_calm, seen}
+use Rattle.rules.proofs.Steps.{Stepped, quiet_gone, quiet_turned, quiet_answered, quiet_ended, holds_quiet, reading_in, Seen, odd_now, doing_quiet, doing_in, reading_own, stepped_calm, seen, leaf_found}
 
 module _ {σ : Setting} {W : World} {f : ℕ → Seat} {h : History} (ι : Inv σ W f h) (s : ℕ) (b8 : s < 8) where
   free : (ph : Phase) → (f s).phase ≡ ph → ((n : ℕ) → holding_in ph n ≡ None) → holding (f s) ≡ None
@@ -56,7 +57,7 @@ module _ {σ : Setting} {W : World} {f : ℕ → Seat} {h : History} (ι : Inv �
       let one : since_look (ev ∷ h) s ≡ 1 = since_own h s r refl ∙ cond-true (looks (place h s) 0 n) _ _ k.1 in
       let seen_n = doing_open k.0 in
       let none : holding x ≡ None = free phase.Look e (λ _. refl) in
-      stepped_calm ι s b8 x' r (quiet_gone n) none refl (λ q z. z) (λ d z. sym (owing phase.Look e) ∙ z) (
+      stepped_calm ι s b8 x' r (quiet_gone n) (sym none) (λ q z. absurd z) (λ d z. sym (owing phase.Look e) ∙ z) (
         record { seated = k.0.seated; begins = doing_quiet ι s b8 r (quiet_gone n) x k.0 },
         record {
           even = rw vs (omega arith);
@@ -120,12 +121,12 @@ module _ {σ : Setting} {W : World} {f : ℕ → Seat} {h : History} (ι : Inv �
       cond_both (ltb i 31) (phase.Copy (i + 1)) phase.Check (λ ph. Stepped σ W f h s W.cells (with_word x i w ph) W.count r)
       (λ b.
       let b' = ltb-true i 31 b in
-      stepped_calm ι s b8 (with_word x i w (phase.Copy (i + 1))) r (quiet_gone n) none refl (λ q z. z) (λ q z. sym (owing (phase.Copy i) e) ∙ z)
+      stepped_calm ι s b8 (with_word x i w (phase.Copy (i + 1))) r (quiet_gone n) (sym none) (λ q z. absurd z) (λ q z. sym (owing (phase.Copy i) e) ∙ z)
       (d (phase.Copy (i + 1)), rd (phase.Copy (i + 1)), omega arith, (i, omega arith, now ∙ rw pl (cond-true (ltb kk 31) _ _ (lt-ltb kk 31 (omega arith)) ∙ ap reading (omega arith)))) l laws)
       (λ b.
       let b' = ltb-false i 31 b in
       let i31 : i + 1 ≡ 32 = omega arith in
-      stepped_calm ι s b8 (with_word x i w phase.Check) r (quiet_gone n) none refl (λ q z. z) (λ q z. sym (owing (phase.Copy i) e) ∙ z)
+      stepped_calm ι s b8 (with_word x i w phase.Check) r (quiet_gone n) (sym none) (λ q z. absurd z) (λ q z. sym (owing (phase.Copy i) e) ∙ z)
       (d phase.Check, rw i31 at (rd phase.Check), now ∙ rw pl (cond-true (ltb kk 31) _ _ (lt-ltb kk 31 (omega arith)) ∙ ap reading (omega arith))) l laws)
 
   -- a turned-back test
@@ -137,7 +138,7 @@ module _ {σ : Setting} {W : World} {f : ℕ → Seat} {h : History} (ι : Inv �
       let r = TurnedBack n in
       let ev = answer_of (Step s) r in
       let now : place (ev ∷ h) s ≡ starting = place_own h s r refl in
-      stepped_calm ι s b8 (in_phase x phase.Look) r (quiet_turned n) (free ph e hz) refl (λ q y. y) (λ q y. sym (owing ph e) ∙ oz ∙ y)
+      stepped_calm ι s b8 (in_phase x phase.Look) r (quiet_turned n) (sym (free ph e hz)) (λ q y. absurd y) (λ q y. sym (owing ph e) ∙ oz ∙ y)
       (doing_in ι s b8 r (quiet_turned n) x phase.Look d, rw now refl, rw now refl)
       (ι.sizes s b8)
       (laws_test σ.start h ev s refl (λ _. (λ _. z, λ _. refl)))
@@ -163,7 +164,7 @@ module _ {σ : Setting} {W : World} {f : ℕ → Seat} {h : History} (ι : Inv �
     passed_laws = laws_test σ.start h (answer_of (Step s) (GoneOn (f s).node)) s refl (λ _. (λ z. absurd (omega arith), λ d. absurd (calm_now d)))
 
     covers_is : covers σ.order.before (f s).copy (f s).key ≡ N.covers σ.order.before looked_at.node_is (f s).key
-    covers_is = rw (looked_at.shown.link_is, looked_at.shown.high_is) refl
+    covers_is = covers_shown σ.order.before (f s).copy looked_at.node_is (f s).key looked_at.shown
 
     goes_on : T.GoesOn σ.order W.tree looked_at.node_is looked_at.from looked_at.to (post_of (f s).operation) (f s).key (f s).aim
     goes_on = (tree_stands σ.order).seats_go_on W.tree (f s).node looked_at.node_is looked_at.from looked_at.to (post_of (f s).operation) (f s).key (f s).aim
@@ -178,7 +179,7 @@ module _ {σ : Setting} {W : World} {f : ℕ → Seat} {h : History} (ι : Inv �
     moves p d z =
         let x = f s in
         let r = GoneOn x.node in
-        stepped_calm ι s b8 (at_node x p) r (quiet_gone x.node) none_held refl (λ q y. y) (λ q y. sym (owing phase.Check e) ∙ y) (
+        stepped_calm ι s b8 (at_node x p) r (quiet_gone x.node) (sym none_held) (λ q y. absurd y) (λ q y. sym (owing phase.Check e) ∙ y) (
           record { seated = z; begins = doing_quiet ι s b8 r (quiet_gone x.node) x k.0 },
           rw (after_check, ne_eqb p x.node d) refl,
           rw after_check (ne_eqb p x.node d),
@@ -225,7 +226,7 @@ module _ {σ : Setting} {W : World} {f : ℕ → Seat} {h : History} (ι : Inv �
       to_latch w =
           let x = f s in
           let r = GoneOn x.node in
-          stepped_calm ι s b8 (in_phase x phase.Latch) r (quiet_gone x.node) none_held refl (λ q y. y) (λ q y. sym (owing phase.Check e) ∙ y) (
+          stepped_calm ι s b8 (in_phase x phase.Latch) r (quiet_gone x.node) (sym none_held) (λ q y. absurd y) (λ q y. sym (owing phase.Check e) ∙ y) (
             doing_in ι s b8 r (quiet_gone x.node) x phase.Latch k.0,
             reading_in x 32 phase.Latch (reading_own ι s b8 r (quiet_gone x.node) (rw k.2 refl) x 32 k.1),
             after_check,
@@ -236,13 +237,7 @@ module _ {σ : Setting} {W : World} {f : ℕ → Seat} {h : History} (ι : Inv �
           (ι.sizes s b8) passed_laws
 
       answer_is : (f s).aim ≡ 0 → plain_map σ.start h (f s).key ≡ found σ.order.before (f s).key (entries (f s).copy)
-      answer_is z =
-          let y = looked_at.node_is in
-          let y0 : y.level ≡ 0 = arrived.0 ∙ z in
-          let leaf : T.Leaf σ.order looked_at.from looked_at.to (row (entries (f s).copy)) = rw looked_at.shown.row_is (sound_here.leaf y0) in
-          let at : T.At σ.order (f s).key 0 (W.tree (f s).node) = rw z at k.0.seated.at in
-          (tree_stands σ.order).leaf_answers W.tree (plain_map σ.start h) (f s).node y looked_at.from looked_at.to (f s).key ι.nodes.sound ι.nodes.answers looked_at.at_is k.0.seated.key at y0 (sym covers_is ∙ c)
-          ∙ rw (sym looked_at.shown.row_is) (sym (found_is σ.order (f s).key looked_at.from looked_at.to (entries (f s).copy) k.0.seated.key leaf))
+      answer_is z = leaf_found ι s b8 (f s) looked_at k.0.seated.key (rw z at k.0.seated.at) (arrived.0 ∙ z) c
 
       find_laws : (o : Option ℕ) → begun h s ≡ finding (f s).key → plain_map σ.start h (f s).key ≡ o → StepLaws σ.start h (answer_of (Step s) (answered (f s).node o)) s
       find_laws None g p = (
@@ -263,7 +258,7 @@ module _ {σ : Setting} {W : World} {f : ℕ → Seat} {h : History} (ι : Inv �
           let r = answered x.node o in
           let bg : Begins σ.start h s operation.Find x.key = rw z at k.0.begins in
           let am : T.Aims σ.order W.tree None x.key x.aim = rw z at k.0.seated.aims in
-          stepped_calm ι s b8 (in_phase x phase.Idle) r (quiet_answered x.node o) none_held refl (λ q y. y) (λ q y. absurd (none-some q y)) tt (ι.sizes s b8)
+          stepped_calm ι s b8 (in_phase x phase.Idle) r (quiet_answered x.node o) (sym none_held) (λ q y. absurd y) (λ q y. absurd (none-some q y)) tt (ι.sizes s b8)
           (find_laws o bg.0 (answer_is am))
       finds (operation.Put v) z = to_latch (rw z tt)
       finds (operation.Post m d) z = to_latch (rw z tt)
@@ -300,7 +295,7 @@ module _ {σ : Setting} {W : World} {f : ℕ → Seat} {h : History} (ι : Inv �
       let r = GoneOn n in
       let ev = answer_of (Step s) r in
       let now : place (ev ∷ h) s ≡ elsewhere = place_own h s r refl ∙ rw (k.2, eq-eqb n n refl) refl in
-      stepped_calm ι s b8 (in_phase x (phase.End (stopped x.operation outcome.Worn))) r (quiet_gone n) (free phase.Latch e (λ _. refl)) refl (λ q y. y) (λ q y. absurd (none-some q y))
+      stepped_calm ι s b8 (in_phase x (phase.End (stopped x.operation outcome.Worn))) r (quiet_gone n) (sym (free phase.Latch e (λ _. refl))) (λ q y. absurd y) (λ q y. absurd (none-some q y))
       (stopped_paid x.operation outcome.Worn x.key (ev ∷ h) refl k.5 (doing_quiet ι s b8 r (quiet_gone n) x k.0), rw now refl)
       (ι.sizes s b8)
       (laws_test σ.start h ev s refl (λ _. (
@@ -322,5 +317,5 @@ module _ {σ : Setting} {W : World} {f : ℕ → Seat} {h : History} (ι : Inv �
   pub end : (o : Outcome) → (f s).phase ≡ phase.End o → SeatIn σ W h s (phase.End o) (f s)
       → Stepped σ W f h s W.cells (in_phase (f s) phase.Idle) W.count (Ended (f s).node o)
   end o e k =
-      stepped_calm ι s b8 (in_phase (f s) phase.Idle) (Ended (f s).node o) (quiet_ended (f s).node o) (free (phase.End o) e (λ _. refl)) refl (λ q y. y) (λ q y. absurd (none-some q y))
+      stepped_calm ι s b8 (in_phase (f s) phase.Idle) (Ended (f s).node o) (quiet_ended (f s).node o) (sym (free (phase.End o) e (λ _. refl))) (λ q y. absurd y) (λ q y. absurd (none-some q y))
       tt (ι.sizes s b8) (end_laws o (f s).node k.0 k.1)

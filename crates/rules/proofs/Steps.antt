@@ -3,6 +3,9 @@ use Rattle.std.proofs.Common.{◌≡◌, ℕ, suc, ◌%◌, ◌<◌, ◌≤◌, 
 use Rattle.std.proofs.lemmas.Bool.{cases_eq, cond-false}
 use Rattle.tree.specs.Node as N
 use Rattle.tree.specs.Tree as T
+use Rattle.tree.proofs.Stands.{tree_stands}
+use Rattle.tree.proofs.Walks.{good_at}
+use Rattle.rules.specs.Nodes.{entries, covers, found}
 use Rattle.rules.specs.Reports.{told}
 use Rattle.rules.specs.Seats.{in_phase}
 use Rattle.rules.specs.Steps.{answered}
@@ -16,11 +19,12 @@ use Rattle.rules.specs.declared.report.Report.{Report}
 use Rattle.rules.specs.declared.report.Report.TheVariants.{GoneOn, TurnedBack, Ended}
 use Rattle.rules.specs.declared.seat.Seat.{Seat}
 use Rattle.rules.proofs.Cells.{lock}
-use Rattle.rules.proofs.Words.{encodes_same, Shows, shows}
+use Rattle.rules.proofs.Entries.{row, found_is}
+use Rattle.rules.proofs.Words.{encodes_same, Shows, covers_shown, shows}
 use Rattle.rules.proofs.Events.{untouched_other, answer_of, holds_own, since_own, begun_own, publishings_own, disturbed_later, disturbed_cases}
 use Rattle.rules.proofs.Inv.{Setting, World, Linked, Open, Begins, Doing, Reading, Hold, SeatIn, Coded, Inv}
 use Rattle.rules.proofs.Rely.{begins_same}
-use Rattle.rules.proofs.Good.{holding, owed, Mine, Good, StepLaws, good_calm, holder_locks}
+use Rattle.rules.proofs.Good.{holding, owed, Mine, Good, StepLaws, with_cells, good_calm, holder_locks}
 
 -- a step of seat `s` with the report `r`: it leads to a world as it may, and the laws of steps hold of it
 pub record Stepped (σ : Setting) (W : World) (f : ℕ → Seat) (h : History) (s : ℕ) (m' : List ℕ) (x' : Seat) (c' : ℕ) (r : Report) : Type 0 where
@@ -73,6 +77,10 @@ module _ (h : History) (s : ℕ) (r : Report) where
 
 -- facts of a seat in another phase
 module _ {σ : Setting} {W : World} where
+  -- a step that leaves the content of the tree
+  pub stepped_as : {f : ℕ → Seat} {h : History} {s : ℕ} {m' : List ℕ} {x' : Seat} {c' : ℕ} {r : Report} → Good σ W (with_cells W m' c') f h (answer_of (Step s) r) s x' → StepLaws σ.start h (answer_of (Step s) r) s → Stepped σ W f h s m' x' c' r
+  stepped_as g l = record { words = W.words; tree = W.tree; good = g; laws = l }
+
   pub reading_in : {h : History} {s : ℕ} (x : Seat) (i : ℕ) (p : Phase) → Reading σ W h s x i → Reading σ W h s (in_phase x p) i
   reading_in x i p r = record { even = r.even; old = r.old; front = r.front; calm = r.calm; loud = r.loud }
 
@@ -110,15 +118,9 @@ module _ {σ : Setting} {W : World} {f : ℕ → Seat} {h : History} (ι : Inv �
         loud = λ q. (disturbed_later ev h s x.node (since_quiet h s r u e) (k.loud q).0, (k.loud q).1);
       }
 
-  pub stepped_calm : (x' : Seat) (r : Report) → Quiet r → holding (f s) ≡ None → holding x' ≡ None → ((q : ℕ) → Mine σ.fan x' q → ⊥) → ((d : ℕ) → owed x' ≡ Some d → owed (f s) ≡ Some d)
+  pub stepped_calm : (x' : Seat) (r : Report) → Quiet r → holding x' ≡ holding (f s) → ((q : ℕ) → Mine σ.fan x' q → Mine σ.fan (f s) q) → ((d : ℕ) → owed x' ≡ Some d → owed (f s) ≡ Some d)
       → SeatIn σ W (answer_of (Step s) r ∷ h) s x'.phase x' → length x'.copy ≡ 32 → StepLaws σ.start h (answer_of (Step s) r) s → Stepped σ W f h s W.cells x' W.count r
-  stepped_calm x' r u a b m d k l z =
-      record {
-        words = W.words;
-        tree = W.tree;
-        good = good_calm ι (answer_of (Step s) r) s x' (b ∙ sym a) (λ q w. absurd (m q w)) d (plain_quiet h s r u σ.start) k (holds_quiet h s r u s) (λ _. l);
-        laws = z;
-      }
+  stepped_calm x' r u a m d k l = stepped_as (good_calm ι (answer_of (Step s) r) s x' a m d (plain_quiet h s r u σ.start) k (holds_quiet h s r u s) (λ _. l))
 
   opened : (p : T.Place) → Linked p → (y : N.Node) × (a : ℕ) × (b : ℕ) × (p ≡ T.held y a b)
   opened T.free z = absurd z
@@ -136,3 +138,13 @@ module _ {σ : Setting} {W : World} {f : ℕ → Seat} {h : History} (ι : Inv �
         shown = shows x.copy p.0 l (encodes_same (W.words x.node) (λ i. get_or x.copy i 0) p.0 same c.0);
         few = c.1;
       }
+
+  -- a leaf that covers the key answers it as the plain map
+  pub leaf_found : (x : Seat) (y : Seen σ W x) → T.Key σ.order x.key → T.At σ.order x.key 0 (W.tree x.node) → y.node_is.level ≡ 0 → covers σ.order.before x.copy x.key ≡ true
+      → plain_map σ.start h x.key ≡ found σ.order.before x.key (entries x.copy)
+  leaf_found x y key at level c =
+      let n = y.node_is in
+      let good = good_at σ.order W.tree x.node n y.from y.to ι.nodes.sound y.at_is in
+      let leaf : T.Leaf σ.order y.from y.to (row (entries x.copy)) = rw y.shown.row_is (good.leaf level) in
+      (tree_stands σ.order).leaf_answers W.tree (plain_map σ.start h) x.node n y.from y.to x.key ι.nodes.sound ι.nodes.answers y.at_is key at level (sym (covers_shown σ.order.before x.copy n x.key y.shown) ∙ c)
+      ∙ rw (sym y.shown.row_is) (sym (found_is σ.order x.key y.from y.to (entries x.copy) key leaf))

@@ -21,12 +21,13 @@ use Rattle.rules.specs.declared.seat.Phase.TheVariants as phase
 use Rattle.rules.specs.declared.report.Report.TheVariants.{Published, Posted}
 use Rattle.rules.specs.declared.seat.Seat.{Seat}
 use Rattle.rules.proofs.Cells.{put}
-use Rattle.rules.proofs.Entries.{as_entry, row, row_put, row_post, found_new, found_is}
+use Rattle.rules.proofs.Entries.{as_entry, row, row_put, row_post, found_new}
+use Rattle.rules.proofs.Words.{covers_shown}
 use Rattle.rules.proofs.Events.{answer_of, holds_own, place_own, begun_own, publishings_own}
 use Rattle.rules.proofs.Inv.{Setting, World, post_of, Begins, paid, Paid, SeatIn, Inv}
 use Rattle.rules.proofs.Good.{owed, laws_plain, tells_same}
-use Rattle.rules.proofs.Steps.{Stepped}
-use Rattle.rules.proofs.Deeds.{shown, Deed, releases_by}
+use Rattle.rules.proofs.Steps.{Stepped, leaf_found}
+use Rattle.rules.proofs.Deeds.{after_release, shown, Deed, releases_by}
 
 paid_stored : (o : Option ℕ) → paid (stored o) ≡ o ∷ []
 paid_stored None = refl
@@ -34,7 +35,7 @@ paid_stored (Some v) = refl
 
 module _ {σ : Setting} {W : World} {f : ℕ → Seat} {h : History} (ι : Inv σ W f h) (s : ℕ) (b8 : s < 8) (e : (f s).phase ≡ phase.Release) (k : SeatIn σ W h s phase.Release (f s)) where
   covers_y : N.covers σ.order.before (shown ι s b8 e k).node_is (f s).key ≡ true
-  covers_y = let sh = (shown ι s b8 e k).shown in rw (sym sh.link_is, sym sh.high_is) k.1.covered
+  covers_y = let y = shown ι s b8 e k in sym (covers_shown σ.order.before (f s).copy y.node_is (f s).key y.shown) ∙ k.1.covered
 
   level_aim : (shown ι s b8 e k).node_is.level ≡ (f s).aim
   level_aim = sym (shown ι s b8 e k).shown.level_is ∙ k.1.there
@@ -73,12 +74,7 @@ module _ {σ : Setting} {W : World} {f : ℕ → Seat} {h : History} (ι : Inv �
     at_0 = rw aim_0 at k.0.seated.at
 
     answer_p : plain_map σ.start h (f s).key ≡ found σ.order.before (f s).key (entries (f s).copy)
-    answer_p =
-        let sh = shown ι s b8 e k in
-        let good = good_at σ.order W.tree (f s).node sh.node_is sh.from sh.to ι.nodes.sound sh.at_is in
-        let leaf : T.Leaf σ.order sh.from sh.to (row (entries (f s).copy)) = rw sh.shown.row_is (good.leaf level_0) in
-        (tree_stands σ.order).leaf_answers W.tree (plain_map σ.start h) (f s).node sh.node_is sh.from sh.to (f s).key ι.nodes.sound ι.nodes.answers sh.at_is key_k at_0 level_0 covers_y
-        ∙ rw (sym sh.shown.row_is) (sym (found_is σ.order (f s).key sh.from sh.to (entries (f s).copy) key_k leaf))
+    answer_p = leaf_found ι s b8 (f s) (shown ι s b8 e k) key_k at_0 level_0 k.1.covered
 
     published : publishings σ.start (answer_of (Step s) (Published (f s).node) ∷ h) s ≡ found σ.order.before (f s).key (entries (f s).copy) ∷ []
     published =
@@ -218,18 +214,10 @@ module _ {σ : Setting} {W : World} {f : ℕ → Seat} {h : History} (ι : Inv �
           laws = laws_plain σ.start h (answer_of (Step s) r) s refl (rw k.2 refl);
         }
 
-  by_operation : (t : Operation) → (f s).operation ≡ t → Stepped σ W f h s (put W.cells (f s).node 0 (f s).draft.freeing)
-      (cond (splits σ.fan (f s).draft) (cond (is_root (f s)) (in_phase (f s) (phase.End (f s).draft.outcome)) (posts_on (f s)))
-      (in_phase (f s) (phase.End (f s).draft.outcome))) W.count
-      (cond (eqb (level (f s).copy) 0) (Published (f s).node) (Posted (f s).node))
+  pub by_operation : (t : Operation) → (f s).operation ≡ t
+      → Stepped σ W f h s (put W.cells (f s).node 0 (f s).draft.freeing) (after_release σ.fan (f s)) W.count (cond (eqb (level (f s).copy) 0) (Published (f s).node) (Posted (f s).node))
   by_operation operation.Find z = absurd (rw z at k.1.writes)
   by_operation (operation.Put v) z =
       rw (eq-eqb (level (f s).copy) 0 (k.1.there ∙ aim_0 v z)) (releases_by ι s b8 e k (Published (f s).node) (put_deed v z))
   by_operation (operation.Post m d) z =
       rw (ne_eqb (level (f s).copy) 0 (λ w. omega (arith, k.1.there, (pend m d z).1))) (releases_by ι s b8 e k (Posted (f s).node) (post_deed m d z))
-
-  pub release : Stepped σ W f h s (put W.cells (f s).node 0 (f s).draft.freeing)
-      (cond (splits σ.fan (f s).draft) (cond (is_root (f s)) (in_phase (f s) (phase.End (f s).draft.outcome)) (posts_on (f s)))
-      (in_phase (f s) (phase.End (f s).draft.outcome))) W.count
-      (cond (eqb (level (f s).copy) 0) (Published (f s).node) (Posted (f s).node))
-  release = by_operation (f s).operation refl

@@ -1,9 +1,9 @@
 -- The words of a node and its content in the tree: words that encode a content, a copy that shows it, and the words that a fill writes.
-use Rattle.std.proofs.Common.{◌≡◌, ℕ, suc, ◌+◌, ◌-◌, ◌*◌, ◌/◌, ◌<◌, ◌≤◌, List, [], ◌∷◌, length, get_or, take, drop, sym, refl, ap, ◌∙◌, arith, length-drop, get_or-drop}
+use Rattle.std.proofs.Common.{◌≡◌, ℕ, suc, ◌+◌, ◌-◌, ◌*◌, ◌/◌, ◌<◌, ◌≤◌, Bool, List, [], ◌∷◌, length, get_or, take, drop, sym, refl, ap, ◌∙◌, arith, length-drop, get_or-drop}
 use Rattle.std.proofs.lemmas.Bool.Decides.{nat_tests}
 use Rattle.std.proofs.lemmas.List.{length-map, get_or-map}
 use Rattle.tree.specs.Node as N
-use Rattle.rules.specs.Nodes.{entry, level, size, link, high, paired, entries, word_of, node_word}
+use Rattle.rules.specs.Nodes.{entry, level, size, link, high, paired, entries, covers, word_of, node_word}
 use Rattle.rules.specs.declared.seat.Entry.{Entry}
 use Rattle.rules.proofs.Entries.{as_entry, row}
 
@@ -42,6 +42,9 @@ pub record Shows (ws : List ℕ) (y : N.Node) : Type 0 where
   pub link_is : link ws ≡ y.link
   pub high_is : high ws ≡ y.high
   pub row_is : row (entries ws) ≡ y.entries
+
+pub covers_shown : (before : ℕ → ℕ → Bool) (ws : List ℕ) (y : N.Node) (k : ℕ) → Shows ws y → covers before ws k ≡ N.covers before y k
+covers_shown before ws y k e = rw (e.link_is, e.high_is) refl
 
 pub shows : (ws : List ℕ) (y : N.Node) → length ws ≡ 32 → Encodes (λ i. get_or ws i 0) y → Shows ws y
 shows ws y l e =

@@ -20,7 +20,7 @@ use Rattle.rules.proofs.Events.{answer_of, holds_own, place_own, begun_own, publ
 use Rattle.rules.proofs.Inv.{Setting, World, Open, post_of, Fresh, MineIn, Uses, first, done_in, Filled, Begins, Planned, Hold, Taken, SeatIn, Inv}
 use Rattle.rules.proofs.Rely.{begins_same, doing_open}
 use Rattle.rules.proofs.Good.{holding, owed, Mine, StepLaws, laws_plain, laws_test, Writing, with_cells, good_write, writing_none, latched_none, good_calm}
-use Rattle.rules.proofs.Steps.{Stepped, quiet_gone, holds_quiet, plain_quiet, hold_in, doing_in, doing_quiet}
+use Rattle.rules.proofs.Steps.{Stepped, stepped_as, stepped_calm, quiet_gone, holds_quiet, plain_quiet, hold_in, doing_in, doing_quiet}
 use Rattle.rules.proofs.Readers.{stopped_paid}
 
 -- nobody writes a linked node with no latch
@@ -137,10 +137,7 @@ module _ {σ : Setting} {W : World} {f : ℕ → Seat} {h : History} (ι : Inv �
         let seated_b = doing_l x refl in
         let owing : (q : ℕ) → post_of x.operation ≡ Some q → owed x ≡ Some q = λ q z. rw e z in
         cond_both (splits σ.fan d) phase.Take (phase.Fill Own 1) (λ ph. Stepped σ W f h s m' (with_draft x d ph) W.count r)
-        (λ z. record {
-          words = W.words;
-          tree = W.tree;
-          good = good_write ι (answer_of (Step s) r) s (with_draft x d phase.Take) m' W.count latching latched_l (λ _. refl) (
+        (λ z. stepped_as (good_write ι (answer_of (Step s) r) s (with_draft x d phase.Take) m' W.count latching latched_l (λ _. refl) (
             record { seated = k.0.seated; begins = seated_b },
             hold_l phase.Take,
             now_l,
@@ -151,13 +148,9 @@ module _ {σ : Setting} {W : World} {f : ℕ → Seat} {h : History} (ι : Inv �
               held_l
               (λ t b q y m. not_mine t q m y)
               (λ t b q y. ι.owes s t b q (owing q y))
-              (λ _. ι.sizes s b8);
-          laws = laws_l;
-        })
-        (λ z. record {
-          words = W.words;
-          tree = W.tree;
-          good = good_write ι (answer_of (Step s) r) s (with_draft x d (phase.Fill Own 1)) m' W.count latching latched_l (λ _. refl) (
+              (λ _. ι.sizes s b8))
+          laws_l)
+        (λ z. stepped_as (good_write ι (answer_of (Step s) r) s (with_draft x d (phase.Fill Own 1)) m' W.count latching latched_l (λ _. refl) (
             record { seated = k.0.seated; begins = seated_b },
             hold_l (phase.Fill Own 1),
             now_l,
@@ -175,9 +168,8 @@ module _ {σ : Setting} {W : World} {f : ℕ → Seat} {h : History} (ι : Inv �
               held_l
               (λ t b q y m. ⊎_elim (not_mine t q m) (λ u. both (splits σ.fan d) u.0 z) y)
               (λ t b q y. ι.owes s t b q (owing q y))
-              (λ _. ι.sizes s b8);
-          laws = laws_l;
-        })
+              (λ _. ι.sizes s b8))
+          laws_l)
       where
         nothing_yet : splits σ.fan (draft_of σ.order.before σ.fan (f s)) ≡ false
             → Filled σ.fan (put W.cells (f s).node 0 (version (f s) + 1)) (with_draft (f s) (draft_of σ.order.before σ.fan (f s)) (phase.Fill Own 1)) (done_in Own 1)
@@ -206,14 +198,8 @@ module _ {σ : Setting} {W : World} {f : ℕ → Seat} {h : History} (ι : Inv �
     gives_up =
         let x = f s in
         let r = GoneOn x.node in
-        record {
-          words = W.words;
-          tree = W.tree;
-          good = good_calm ι (answer_of (Step s) r) s (in_phase x phase.Undo) (sym own_held) mine_t owing_t (plain_quiet h s r (quiet_gone x.node) σ.start)
-              (doing_in ι s b8 r (quiet_gone x.node) x phase.Undo k.0, hold_in x phase.Undo k.1, now_t, k.3)
-              (holds_quiet h s r (quiet_gone x.node) s) (λ _. ι.sizes s b8);
-          laws = laws_t;
-        }
+        stepped_calm ι s b8 (in_phase x phase.Undo) r (quiet_gone x.node) (sym own_held) mine_t owing_t
+        (doing_in ι s b8 r (quiet_gone x.node) x phase.Undo k.0, hold_in x phase.Undo k.1, now_t, k.3) (ι.sizes s b8) laws_t
 
     -- taking nodes leaves the entries as drafted
     planned_t : Planned σ (with_nodes (f s) W.count) (f s).operation (f s).key (f s).copy
@@ -269,10 +255,7 @@ module _ {σ : Setting} {W : World} {f : ℕ → Seat} {h : History} (ι : Inv �
         let c' = W.count + needed x in
         let x' = with_draft x (with_nodes x W.count) (phase.Fill p 0) in
         let ev = answer_of (Step s) r in
-        record {
-          words = W.words;
-          tree = W.tree;
-          good = good_write ι ev s x' W.cells c' (writing_none ι ev s x' c' (omega arith) room) (latched_none ι ev s x' (sym own_held)) (plain_quiet h s r (quiet_gone x.node) σ.start) (
+        stepped_as (good_write ι ev s x' W.cells c' (writing_none ι ev s x' c' (omega arith) room) (latched_none ι ev s x' (sym own_held)) (plain_quiet h s r (quiet_gone x.node) σ.start) (
             record { seated = k.0.seated; begins = doing_quiet ι s b8 r (quiet_gone x.node) x k.0 },
             hold_t (phase.Fill p 0),
             now_t,
@@ -287,9 +270,8 @@ module _ {σ : Setting} {W : World} {f : ℕ → Seat} {h : History} (ι : Inv �
               (λ (z : q ≡ x.node). ι.apart s t b q (mine_t q z) m)
               (λ z. omega (arith, (fresh_in (phase.Fill p 0) q z).0, mine_below σ W h t (f t).phase (f t) q ι.nodes.below (ι.seats t) m)) y)
               (λ t b q y. ι.owes s t b q (owing_t q y))
-              (λ _. ι.sizes s b8);
-          laws = laws_t;
-        }
+              (λ _. ι.sizes s b8))
+          laws_t
 
     pub takes_nodes : 32 * (W.count + needed (f s)) ≤ length W.cells
         → Stepped σ W f h s W.cells (with_draft (f s) (with_nodes (f s) W.count) (phase.Fill (cond (is_root (f s)) Left Right) 0)) (W.count + needed (f s)) (GoneOn (f s).node)
@@ -313,10 +295,7 @@ module _ {σ : Setting} {W : World} {f : ℕ → Seat} {h : History} (ι : Inv �
         let lk = set_lock W.cells n v (omega (arith, in_cells n (ι.nodes.below n o_n))) in
         let now : place (ev ∷ h) s ≡ elsewhere = place_own h s r refl ∙ rw k.2 refl in
         let not_n : (t : ℕ) → t ≢ s → (q : ℕ) → Mine σ.fan (f t) q → q ≢ n = λ t d q m z. ι.apart s t d q (rw e z) m in
-        record {
-          words = W.words;
-          tree = W.tree;
-          good = good_write ι ev s (in_phase x (phase.End (stopped x.operation outcome.Full))) m' W.count
+        stepped_as (good_write ι ev s (in_phase x (phase.End (stopped x.operation outcome.Full))) m' W.count
               (record {
                 len = length_put W.cells n 0 v;
                 more = omega arith;
@@ -342,6 +321,5 @@ module _ {σ : Setting} {W : World} {f : ℕ → Seat} {h : History} (ι : Inv �
               (holds_own h s r refl)
               (λ t b q y m. y)
               (λ t b q y. absurd (none-some q y))
-              (λ _. ι.sizes s b8);
-          laws = laws_plain σ.start h ev s refl (rw k.2 refl);
-        }
+              (λ _. ι.sizes s b8))
+          (laws_plain σ.start h ev s refl (rw k.2 refl))
