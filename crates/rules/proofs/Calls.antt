@@ -33,7 +33,7 @@ use Rattle.rules.proofs.Cells.{word, put, lock, word_is, put_is}
 use Rattle.rules.proofs.Events.{untouched_refused, refused, not_accepted, not_published, answer_of, Restarted, restarted_find, restarted_put}
 use Rattle.rules.proofs.Inv.{Setting, World, post_of, Begins, Doing, SeatIn, Inv}
 use Rattle.rules.proofs.Rely.{Rely, lasts}
-use Rattle.rules.proofs.Good.{holding, next, LawsAt, with_abandon, laws_unstepped, tells_same, good_calm}
+use Rattle.rules.proofs.Good.{holding, Good, next, LawsAt, with_abandon, laws_unstepped, tells_same, good_calm}
 use Rattle.rules.proofs.Steps.{Stepped, odd_now}
 use Rattle.rules.proofs.Readers.{look, copy, check, lost, wears, end}
 use Rattle.rules.proofs.Writers.{wins, gives_up, takes_nodes, undoes}
@@ -121,23 +121,28 @@ module _ (σ : Setting) (iskey : ℕ → Bool) (keyed : (k : ℕ) → iskey k �
   other i x t d = get_or-set_other ss i t x _ d
 
   module _ (i : ℕ) (b8 : i < 8) where
+    called_kept : (call : Call) (r : Report) (x' : Seat) (m' : List ℕ) (c' : ℕ) (w' : ℕ → ℕ → ℕ) (g' : ℕ → T.Place) → Good σ (world m c w g) (world m' c' w' g') (seat_at ss) h (answer_of call r) i x'
+        → seat_of call ≡ i → ((s : ℕ) → LawsAt σ.start h (answer_of call r) s) → Kept σ iskey h call (Ok r, norm σ iskey m' c' (set ss i x'))
+    called_kept call r x' m' c' w' g' G whose laws =
+        record {
+          cells = m';
+          count = c';
+          seats = set ss i x';
+          words = w';
+          tree = g';
+          is = refl;
+          inv = next ι G whose (seat_at (set ss i x')) (here i x' b8) (other i x');
+          eight = length-set ss i x' ∙ eight;
+          laws = laws;
+        }
+
     stepped_kept : (m' : List ℕ) (z : Seat × ℕ × Report) → Stepped σ (world m c w g) (seat_at ss) h i m' z.0 z.1 z.2
         → Kept σ iskey h (Step i) (Ok z.2, norm σ iskey m' z.1 (set ss i z.0))
     stepped_kept m' z t =
-        record {
-          cells = m';
-          count = z.1;
-          seats = set ss i z.0;
-          words = t.words;
-          tree = t.tree;
-          is = refl;
-          inv = next ι t.good refl (seat_at (set ss i z.0)) (here i z.0 b8) (other i z.0);
-          eight = length-set ss i z.0 ∙ eight;
-          laws = λ s. with_abandon σ.start h (answer_of (Step i) z.2) s (elim (cases_eq s i) [
-            | inl y ↦ rw y t.laws
-            | inr d ↦ laws_unstepped σ.start h (answer_of (Step i) z.2) s (and_left (eqb s i) (accepted (answer_of (Step i) z.2)) (ne_eqb s i d))
-          ]) (λ t. absurd t);
-        }
+        called_kept (Step i) z.2 z.0 m' z.1 t.words t.tree t.good refl (λ s. with_abandon σ.start h (answer_of (Step i) z.2) s (elim (cases_eq s i) [
+          | inl y ↦ rw y t.laws
+          | inr d ↦ laws_unstepped σ.start h (answer_of (Step i) z.2) s (and_left (eqb s i) (accepted (answer_of (Step i) z.2)) (ne_eqb s i d))
+        ]) (λ t. absurd t))
 
     abbrev x : Seat
     x = seat_at ss i
@@ -166,23 +171,29 @@ module _ (σ : Setting) (iskey : ℕ → Bool) (keyed : (k : ℕ) → iskey k �
     step_same (Err r) = refl
     step_same (Ok a) = answered_same a (answers m σ.top a)
 
+    -- an access to a cell that the memory has, and a write of a word that it takes
+    reaches : (a : Option Access) (cell : ℕ) (v : ℕ → Seat × ℕ × Report) (r : Result ℕ Fault) (f : Fault) → Kept σ iskey h (Step i) (answered_with a v r)
+        → Kept σ iskey h (Step i) (answered_with a v (cond (ltb cell (length m)) r (Err f)))
+    reaches a cell v r f k = cond_both (ltb cell (length m)) _ _ (λ r. Kept σ iskey h (Step i) (answered_with a v r)) (λ _. k) (λ _. refuse (Step i) _)
+
+    writes : (a : Option Access) (cell y old : ℕ) (v : ℕ → Seat × ℕ × Report) → (ltb σ.top y ≡ false → Kept σ iskey h (Step i) (moved (norm σ iskey m c ss) i a (v old)))
+        → Kept σ iskey h (Step i) (answered_with a v (guarded m σ.top cell y old))
+    writes a cell y old v k =
+        reaches a cell v _ _ (cond_both (ltb σ.top y) _ _ (λ r. Kept σ iskey h (Step i) (answered_with a v r)) (λ _. refuse (Step i) _) k)
+
     reads : (q j : ℕ) (v : ℕ → Seat × ℕ × Report)
         → ((y : ℕ) → y ≡ word m q j → Stepped σ (world m c w g) (seat_at ss) h i m (v y).0 (v y).1 (v y).2)
         → Kept σ iskey h (Step i) (answered_with (Some (access.Read (cell_of q j))) v (read_at m (cell_of q j)))
     reads q j v k =
-        cond_both (ltb (cell_of q j) (length m)) _ _ (λ r. Kept σ iskey h (Step i) (answered_with (Some (access.Read (cell_of q j))) v r))
-        (λ _. moved_kept (Some (access.Read (cell_of q j))) m (v (get_or m (cell_of q j) 0)) refl (k (get_or m (cell_of q j) 0) (word_is m q j)))
-        (λ _. refuse (Step i) _)
+        reaches (Some (access.Read (cell_of q j))) (cell_of q j) v _ _
+        (moved_kept (Some (access.Read (cell_of q j))) m (v (get_or m (cell_of q j) 0)) refl (k (get_or m (cell_of q j) 0) (word_is m q j)))
 
     stores : (q j y : ℕ) (v : ℕ → Seat × ℕ × Report)
         → Stepped σ (world m c w g) (seat_at ss) h i (put m q j y) (v 0).0 (v 0).1 (v 0).2
         → Kept σ iskey h (Step i) (answered_with (Some (access.Write (cell_of q j) y)) v (guarded m σ.top (cell_of q j) y 0))
     stores q j y v k =
-        cond_both (ltb (cell_of q j) (length m)) _ _ (λ r. Kept σ iskey h (Step i) (answered_with (Some (access.Write (cell_of q j) y)) v r))
-        (λ _. cond_both (ltb σ.top y) _ _ (λ r. Kept σ iskey h (Step i) (answered_with (Some (access.Write (cell_of q j) y)) v r))
-        (λ _. refuse (Step i) _)
-        (λ b. moved_kept (Some (access.Write (cell_of q j) y)) (put m q j y) (v 0) (cond-false (ltb σ.top y) _ _ b ∙ put_is m q j y) k))
-        (λ _. refuse (Step i) _)
+        let a = Some (access.Write (cell_of q j) y) in
+        writes a (cell_of q j) y 0 v (λ b. moved_kept a (put m q j y) (v 0) (cond-false (ltb σ.top y) _ _ b ∙ put_is m q j y) k)
 
     -- the latch step
     module _ (e : x.phase ≡ phase.Latch) (k : SeatIn σ (world m c w g) h i phase.Latch x) where
@@ -196,16 +207,13 @@ module _ (σ : Setting) (iskey : ℕ → Bool) (keyed : (k : ℕ) → iskey k �
           let y = get_or m (cell_of x.node 0) 0 in
           let yl : y ≡ lock m x.node = word_is m x.node 0 in
           let P : Seat × Report → Type 0 = λ z. Kept σ iskey h (Step i) (moved (norm σ iskey m c ss) i a (steady c z)) in
-          cond_both (ltb (cell_of x.node 0) (length m)) _ _ (λ r. Kept σ iskey h (Step i) (answered_with a adv r))
-          (λ _. cond_both (ltb σ.top (version x + 1)) _ _ (λ r. Kept σ iskey h (Step i) (answered_with a adv r))
-          (λ _. refuse (Step i) _)
+          writes a (cell_of x.node 0) (version x + 1) y adv
           (λ b. cond_both (worn X x) _ _ P
           (λ t. absurd (true≢false (sym t ∙ n)))
           (λ _. cond_both (eqb y (version x)) _ _ P
           (λ z. moved_kept a (put m x.node 0 (version x + 1)) _ (cond-true (eqb y (version x)) _ _ z ∙ cond-false (ltb σ.top (version x + 1)) _ _ b ∙ put_is m x.node 0 (version x + 1))
           (wins ι i b8 e k (sym yl ∙ eqb-true y (version x) z) (ltb-false σ.top (version x + 2) n)))
-          (λ z. moved_kept a m _ (cond-false (eqb y (version x)) _ _ z) (lost ι i b8 e k (λ q. eqb-false y (version x) z (yl ∙ q)))))))
-          (λ _. refuse (Step i) _)
+          (λ z. moved_kept a m _ (cond-false (eqb y (version x)) _ _ z) (lost ι i b8 e k (λ q. eqb-false y (version x) z (yl ∙ q))))))
 
       wears_out : worn X x ≡ true → Kept σ iskey h (Step i) (moved (norm σ iskey m c ss) i None (adv 0))
       wears_out t =
@@ -237,10 +245,9 @@ module _ (σ : Setting) (iskey : ℕ → Bool) (keyed : (k : ℕ) → iskey k �
     step_in (phase.Copy j) e k = reads x.node j _ (λ y q. copy ι i b8 j e k y q)
     step_in phase.Check e k =
         let a = Some (access.Read (cell_of x.node 0)) in
-        cond_both (ltb (cell_of x.node 0) (length m)) _ _ (λ r. Kept σ iskey h (Step i) (answered_with a (advance_at σ.order.before X phase.Check x c) r))
-        (λ _. check ι i b8 e k (get_or m (cell_of x.node 0) 0) (word_is m x.node 0) (λ z. Kept σ iskey h (Step i) (moved (norm σ iskey m c ss) i a z))
+        reaches a (cell_of x.node 0) _ _ _
+        (check ι i b8 e k (get_or m (cell_of x.node 0) 0) (word_is m x.node 0) (λ z. Kept σ iskey h (Step i) (moved (norm σ iskey m c ss) i a z))
         (λ y r t. moved_kept a m (y, c, r) refl t))
-        (λ _. refuse (Step i) _)
     step_in phase.Latch e k = latch_kept e k
     step_in phase.Take e k = take_kept e k
     step_in (phase.Fill p j) e k = stores (part_node p x) j (fill_word σ.fan x p j) _ (fills ι i b8 p j e k)
@@ -263,17 +270,7 @@ module _ (σ : Setting) (iskey : ℕ → Bool) (keyed : (k : ℕ) → iskey k �
         let seat0 = ((tree_stands σ.order).seats_start g ι.nodes.sound).0 k (keyed k key (ltb-false σ.top k (or_parts (ltb σ.top k) (ltb σ.top (value_of t)) low).0)) in
         let G = good_calm ι e i x' (sym none) (λ q z. absurd z) (λ d z. absurd (none-some d (sym free ∙ z))) (λ _. refl)
         (record { seated = rw free seat0; begins = bg h R }, rw R.place_is refl, rw R.place_is refl) R.holds_same (λ _. ι.sizes i b8) in
-        record {
-          cells = m;
-          count = c;
-          seats = set ss i x';
-          words = w;
-          tree = g;
-          is = refl;
-          inv = next ι G whose (seat_at (set ss i x')) (here i x' b8) (other i x');
-          eight = length-set ss i x' ∙ eight;
-          laws = laws;
-        }
+        called_kept call (GoneOn 0) x' m c w g G whose laws
 
     -- a seat is freed
     freed_kept : (p : Bool) → holding x ≡ None → PublishedAs σ.start h i p → Kept σ iskey h (Abandon i) (Ok (Abandoned p), with_seat (norm σ iskey m c ss) i (in_phase x phase.Idle))
@@ -281,17 +278,7 @@ module _ (σ : Setting) (iskey : ℕ → Bool) (keyed : (k : ℕ) → iskey k �
         let e = answer_of (Abandon i) (Abandoned p) in
         let x' = in_phase x phase.Idle in
         let G = good_calm ι e i x' (sym none) (λ q z. absurd z) (λ d z. absurd (none-some d z)) (λ q. quiet p q) tt refl (λ _. ι.sizes i b8) in
-        record {
-          cells = m;
-          count = c;
-          seats = set ss i x';
-          words = w;
-          tree = g;
-          is = refl;
-          inv = next ι G refl (seat_at (set ss i x')) (here i x' b8) (other i x');
-          eight = length-set ss i x' ∙ eight;
-          laws = λ s. with_abandon σ.start h e s (laws_unstepped σ.start h e s refl) (abandon_law σ.start h i p published s);
-        }
+        called_kept (Abandon i) (Abandoned p) x' m c w g G refl (λ s. with_abandon σ.start h e s (laws_unstepped σ.start h e s refl) (abandon_law σ.start h i p published s))
       where
         quiet : (p : Bool) (q : ℕ) → plain_map σ.start (answer_of (Abandon i) (Abandoned p) ∷ h) q ≡ plain_map σ.start h q
         quiet true q = refl

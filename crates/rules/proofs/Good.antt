@@ -80,54 +80,37 @@ module _ {σ : Setting} {W W' : World} {f : ℕ → Seat} {h : History} {e : Eve
             rw same (holder_locks σ W h t (f t).phase (f t) q (ι.seats t) w).0)
       ]
 
-  pub next : (f' : ℕ → Seat) → f' s ≡ x' → ((t : ℕ) → t ≢ s → f' t ≡ f t) → Inv σ W' f' (e ∷ h)
-  next f' here other =
-      record {
-        nodes = record {
-          room = g.room;
-          below = g.below;
-          latched = λ q o l. elim (g.latched q o l) [
-            | inl z ↦ (s, rw here z)
-            | inr z ↦ (z.0, rw (other z.0 z.1) z.2)
-          ];
-          same = g.same;
-          sound = g.sound;
-          coded = g.coded;
-          answers = g.answers;
-        };
-        seats = λ t. elim (cases_eq t s) [
-          | inl z ↦ rw (z, here) g.mine
-          | inr d ↦ rw (other t d) (lasts (λ z. d (sym z)) odd_after (un t d) (f t).phase (f t) (g.others t d) (ι.seats t))
-        ];
-        held_by = λ t. elim (cases_eq t s) [
-          | inl z ↦ rw (z, here) g.held_now
-          | inr d ↦ rw (other t d) (held_other t d)
-        ];
-        apart = λ a b d q. elim (cases_eq a s) [
-          | inl z ↦ elim (cases_eq b s) [
-            | inl y ↦ absurd (d (y ∙ sym z))
-            | inr y ↦ rw (z, here, other b y) (g.apart b y q)
-          ]
-          | inr z ↦ elim (cases_eq b s) [
-            | inl y ↦ rw (y, here, other a z) (λ u w. g.apart a z q w u)
-            | inr y ↦ rw (other a z, other b y) (ι.apart a b d q)
-          ]
-        ];
-        owes = λ a b d q. elim (cases_eq a s) [
-          | inl z ↦ elim (cases_eq b s) [
-            | inl y ↦ absurd (d (y ∙ sym z))
-            | inr y ↦ rw (z, here, other b y) (g.owes b y q)
-          ]
-          | inr z ↦ elim (cases_eq b s) [
-            | inl y ↦ rw (y, here, other a z) (λ u w. g.owes a z q w u)
-            | inr y ↦ rw (other a z, other b y) (ι.owes a b d q)
-          ]
-        ];
-        sizes = λ t b. elim (cases_eq t s) [
-          | inl z ↦ rw (z, here) (g.size (rw z at b))
-          | inr d ↦ rw (other t d) (ι.sizes t b)
-        ];
-      }
+  module _ (f' : ℕ → Seat) (here : f' s ≡ x') (other : (t : ℕ) → t ≢ s → f' t ≡ f t) where
+    each : (P : ℕ → Seat → Type 0) → P s x' → ((t : ℕ) → t ≢ s → P t (f t)) → (t : ℕ) → P t (f' t)
+    each P mine rest t = elim (cases_eq t s) [ inl z ↦ rw (z, here) mine | inr d ↦ rw (other t d) (rest t d) ]
+
+    -- what holds of `x'` with each other seat, and of the others, holds of any two
+    pairs : (P : Seat → Seat → Type 0) → ((x y : Seat) → P x y → P y x) → ((t : ℕ) → t ≢ s → P x' (f t)) → ((a b : ℕ) → b ≢ a → P (f a) (f b)) → (a b : ℕ) → b ≢ a → P (f' a) (f' b)
+    pairs P turn mine rest =
+        each (λ a x. (b : ℕ) → b ≢ a → P x (f' b)) (λ b d. rw (other b d) (mine b d))
+        (λ a z. each (λ b y. b ≢ a → P (f a) y) (λ _. turn x' (f a) (mine a z)) (λ b _ d. rest a b d))
+
+    pub next : Inv σ W' f' (e ∷ h)
+    next =
+        record {
+          nodes = record {
+            room = g.room;
+            below = g.below;
+            latched = λ q o l. elim (g.latched q o l) [
+              | inl z ↦ (s, rw here z)
+              | inr z ↦ (z.0, rw (other z.0 z.1) z.2)
+            ];
+            same = g.same;
+            sound = g.sound;
+            coded = g.coded;
+            answers = g.answers;
+          };
+          seats = each (λ t x. SeatIn σ W' (e ∷ h) t x.phase x) g.mine (λ t d. lasts (λ z. d (sym z)) odd_after (un t d) (f t).phase (f t) (g.others t d) (ι.seats t));
+          held_by = each (λ t x. holds (e ∷ h) t ≡ holding x) g.held_now held_other;
+          apart = pairs (λ x y. (q : ℕ) → Mine σ.fan x q → Mine σ.fan y q → ⊥) (λ x y p q a b. p q b a) g.apart ι.apart;
+          owes = pairs (λ x y. (q : ℕ) → owed x ≡ Some q → owed y ≡ Some q → ⊥) (λ x y p q a b. p q b a) g.owes ι.owes;
+          sizes = each (λ t x. t < 8 → length x.copy ≡ 32) g.size (λ t _. ι.sizes t);
+        }
 
 -- the laws of one event, and those of them that speak of steps
 abbrev pub LawsAt : (m₀ : ℕ → Option ℕ) → History → Event → ℕ → Type 0
