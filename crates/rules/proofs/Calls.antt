@@ -232,12 +232,8 @@ module _ (σ : Setting) (iskey : ℕ → Bool) (keyed : (k : ℕ) → iskey k �
         (λ t. moved_kept None m _ refl (takes_nodes ι i b8 e k (omega (arith, room t))))
         (λ _. moved_kept None m _ refl (gives_up ι i b8 e k))
       where
-        first_false : (b : Bool) (y : Bool) → cond b false y ≡ true → b ≡ false
-        first_false true y z = absurd (true≢false (sym z))
-        first_false false y z = refl
-
         room : fits X x c ≡ true → c + needed x ≤ length m / 32
-        room t = ltb-false (length m / 32) (c + needed x) (first_false (ltb (length m / 32) (c + needed x)) _ t)
+        room = cond_both (ltb (length m / 32) (c + needed x)) false _ (λ y. y ≡ true → c + needed x ≤ length m / 32) (λ _ z. absurd (true≢false (sym z))) (λ b _. ltb-false (length m / 32) (c + needed x) b)
 
     step_in : (ph : Phase) → x.phase ≡ ph → SeatIn σ (world m c w g) h i ph x → Kept σ iskey h (Step i) (step_with (due_in ph (access_at X ph x)) (advance_at σ.order.before X ph x c))
     step_in phase.Idle e k = refuse (Step i) _
@@ -288,16 +284,12 @@ module _ (σ : Setting) (iskey : ℕ → Bool) (keyed : (k : ℕ) → iskey k �
     underway d = begun_published σ.start h i x.operation x.key d.begins
 
     abandon_in : (ph : Phase) → x.phase ≡ ph → SeatIn σ (world m c w g) h i ph x → Kept σ iskey h (Abandon i) (abandoned (norm σ iskey m c ss) i (abandon_answer ph x.operation))
-    abandon_in phase.Idle e k = refuse (Abandon i) _
     abandon_in phase.Look e k = freed_kept _ (rw e refl) (underway k.0)
     abandon_in (phase.Copy j) e k = freed_kept _ (rw e refl) (underway k.0)
     abandon_in phase.Check e k = freed_kept _ (rw e refl) (underway k.0)
     abandon_in phase.Latch e k = freed_kept _ (rw e refl) (underway k.0)
-    abandon_in phase.Take e k = refuse (Abandon i) _
-    abandon_in (phase.Fill p j) e k = refuse (Abandon i) _
-    abandon_in phase.Release e k = refuse (Abandon i) _
-    abandon_in phase.Undo e k = refuse (Abandon i) _
     abandon_in (phase.End r) e k = freed_kept _ (rw e refl) (ended_published σ.start h i r k.0)
+    abandon_in ph e k = refuse (Abandon i) _
 
   step_kept : (i : ℕ) → Kept σ iskey h (Step i) (step (norm σ iskey m c ss) i)
   step_kept i =

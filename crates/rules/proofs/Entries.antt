@@ -29,8 +29,7 @@ module _ (before : ℕ → ℕ → Bool) where
   row_post m d [] = refl
   row_post m d (e ∷ []) = refl
   row_post m d (e ∷ (f ∷ es)) =
-      elim (before e.key m) as (λ b. row (cond b (e ∷ post_in before m d (f ∷ es)) (entry m e.value ∷ (entry e.key d ∷ (f ∷ es)))) ≡ cond b (N.entry e.key e.value ∷ N.posted before (row (f ∷ es)) m d) (N.entry m e.value ∷ (N.entry e.key d ∷ row (f ∷ es))))
-      [ true ↦ ap (λ z. N.entry e.key e.value ∷ z) (row_post m d (f ∷ es)) | false ↦ refl ]
+      elim (cases_Bool (before e.key m)) [ inl b ↦ rw b (ap (λ z. as_entry e ∷ z) (row_post m d (f ∷ es))) | inr b ↦ rw b refl ]
 
   -- the rules ask `before` first, the tree asks for the same key first
   pub row_put : (k v : ℕ) → before k k ≡ false → (es : List Entry) → row (put_in before k v es) ≡ N.insert before (row es) k v
@@ -38,8 +37,7 @@ module _ (before : ℕ → ℕ → Bool) where
   row_put k v never (e ∷ es) =
       elim (cases_Bool (eqb e.key k)) [
         | inl same ↦ (let b : before e.key k ≡ false = rw (eqb-true e.key k same) never in rw (b, same) refl)
-        | inr other ↦ rw other (elim (before e.key k) as (λ b. row (cond b (e ∷ put_in before k v es) (cond false (entry k v ∷ es) (entry k v ∷ (e ∷ es)))) ≡ cond b (N.entry e.key e.value ∷ N.insert before (row es) k v) (N.entry k v ∷ (N.entry e.key e.value ∷ row es)))
-            [ true ↦ ap (λ z. N.entry e.key e.value ∷ z) (row_put k v never es) | false ↦ refl ])
+        | inr other ↦ rw other (elim (cases_Bool (before e.key k)) [ inl b ↦ rw b (ap (λ z. as_entry e ∷ z) (row_put k v never es)) | inr b ↦ rw b refl ])
       ]
 
   -- a put that makes the row longer put a new key

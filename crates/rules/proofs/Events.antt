@@ -114,23 +114,15 @@ disturbed_now h s n o d p = (0, omega arith, o, d, p)
 
 pub disturbed_cases : (e : Event) (h : History) (s n : ℕ) → since_look (e ∷ h) s ≡ suc (since_look h s) → Disturbed (e ∷ h) s n
     → ((o : ℕ) × (o ≢ s) × (holds (e ∷ h) o ≡ Some n)) ⊎ Disturbed h s n
-disturbed_cases e h s n more d = go d.0 d.1 d.2 d.3 d.4
-  where
-    go : (j : ℕ) → j ≤ since_look (e ∷ h) s → (o : ℕ) → o ≢ s → holds (drop j (e ∷ h)) o ≡ Some n
-        → ((o : ℕ) × (o ≢ s) × (holds (e ∷ h) o ≡ Some n)) ⊎ Disturbed h s n
-    go zero b o ne p = inl (o, ne, p)
-    go (suc j) b o ne p = inr (j, omega (arith, more), o, ne, p)
+disturbed_cases e h s n more (zero, b, o, ne, p) = inl (o, ne, p)
+disturbed_cases e h s n more (suc j, b, o, ne, p) = inr (j, omega (arith, more), o, ne, p)
 
 -- right after a look
 pub disturbed_looked : (e : Event) (h : History) (s n : ℕ) → since_look (e ∷ h) s ≡ 1 → Disturbed (e ∷ h) s n
     → ((o : ℕ) × (o ≢ s) × (holds (e ∷ h) o ≡ Some n)) ⊎ ((o : ℕ) × (o ≢ s) × (holds h o ≡ Some n))
-disturbed_looked e h s n one d = go d.0 d.1 d.2 d.3 d.4
-  where
-    go : (j : ℕ) → j ≤ since_look (e ∷ h) s → (o : ℕ) → o ≢ s → holds (drop j (e ∷ h)) o ≡ Some n
-        → ((o : ℕ) × (o ≢ s) × (holds (e ∷ h) o ≡ Some n)) ⊎ ((o : ℕ) × (o ≢ s) × (holds h o ≡ Some n))
-    go zero b o ne p = inl (o, ne, p)
-    go (suc zero) b o ne p = inr (o, ne, p)
-    go (suc (suc j)) b o ne p = absurd (omega (arith, one))
+disturbed_looked e h s n one (zero, b, o, ne, p) = inl (o, ne, p)
+disturbed_looked e h s n one (suc zero, b, o, ne, p) = inr (o, ne, p)
+disturbed_looked e h s n one (suc (suc j), b, o, ne, p) = absurd (omega (arith, one))
 
 pub disturbed_before : (e : Event) (h : History) (s n o : ℕ) → since_look (e ∷ h) s ≡ 1 → o ≢ s → holds h o ≡ Some n → Disturbed (e ∷ h) s n
 disturbed_before e h s n o one d p = (1, omega (arith, one), o, d, p)

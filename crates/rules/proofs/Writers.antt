@@ -238,13 +238,11 @@ module _ {σ : Setting} {W : World} {f : ℕ → Seat} {h : History} (ι : Inv �
 
     filled_left : Filled σ.fan W.cells (with_draft (f s) (with_nodes (f s) W.count) (phase.Fill Left 0)) (done_in Left 0)
     filled_left Left u w a b = absurd (omega arith)
-    filled_left Right u w a b = absurd (omega arith)
-    filled_left Own u w a b = absurd (omega arith)
+    filled_left p u w a b = absurd (omega arith)
 
     filled_right : is_root (f s) ≡ false → Filled σ.fan W.cells (with_draft (f s) (with_nodes (f s) W.count) (phase.Fill Right 0)) (done_in Right 0)
     filled_right z Left u w a b = both (is_root (f s)) u.1 z
-    filled_right z Right u w a b = absurd (omega arith)
-    filled_right z Own u w a b = absurd (omega arith)
+    filled_right z p u w a b = absurd (omega arith)
 
     took : 32 * (W.count + needed (f s)) ≤ length W.cells → (p : Part) → first p ≤ 0 → Uses σ.fan (with_draft (f s) (with_nodes (f s) W.count) (phase.Fill p 0)) p
         → Filled σ.fan W.cells (with_draft (f s) (with_nodes (f s) W.count) (phase.Fill p 0)) (done_in p 0)
