@@ -14,7 +14,7 @@ use Rattle.rules.specs.declared.seat.Seat.{Seat}
 use Rattle.rules.proofs.Cells.{word, put, lock, word_put, word_put_word, word_put_node, length_put}
 use Rattle.rules.proofs.Events.{answer_of, place_own}
 use Rattle.rules.proofs.Inv.{Setting, World, Open, holding_in, post_of, owed_in, Fresh, MineIn, Uses, first, done_in, Filled, Doing, Hold, Taken, SeatIn, Inv}
-use Rattle.rules.proofs.Rely.{doing_open, part_mine}
+use Rattle.rules.proofs.Rely.{doing_open, hold_as, part_mine}
 use Rattle.rules.proofs.Good.{holding, owed, Mine, laws_plain, Writing, with_cells, good_write}
 use Rattle.rules.proofs.Steps.{Stepped, stepped_as, quiet_gone, holds_quiet, plain_quiet, doing_in}
 use Rattle.rules.proofs.Writers.{mine_below, in_cells}
@@ -105,9 +105,7 @@ module _ {σ : Setting} {W : World} {f : ℕ → Seat} {h : History} (ι : Inv �
   W' = with_cells W (put W.cells (part_node p (f s)) i (fill_word σ.fan (f s) p i)) W.count
 
   hold_f : (ph : Phase) → Hold σ W' (in_phase (f s) ph)
-  hold_f ph =
-      let a = k.1 in
-      record { even = a.even; mine = open_lock ι s b8 p i e k (f s).node (doing_open k.0) ∙ a.mine; low = a.low; kept = a.kept; there = a.there; covered = a.covered; planned = a.planned; writes = a.writes }
+  hold_f ph = hold_as (f s) (f s).draft ph (open_lock ι s b8 p i e k (f s).node (doing_open k.0)) (λ _. refl) k.1.planned k.1
 
   taken_f : (ph : Phase) → Taken σ W' (in_phase (f s) ph)
   taken_f ph = let a = k.3 in record { inside = a.inside; hidden = a.hidden; two = a.two; level_is = a.level_is }

@@ -2,6 +2,7 @@
 use Rattle.std.proofs.Common.{◌≡◌, ℕ, ◌+◌, ◌%◌, ◌<◌, ◌≤◌, ◌≢◌, ◌⊎◌, ◌∷◌, Some, Option, sym, refl, ◌∙◌, inl, inr, ⊎_elim, arith}
 use Rattle.std.proofs.lemmas.Bool.{cases_eq}
 use Rattle.tree.specs.Tree as T
+use Rattle.rules.specs.Seats.{with_draft}
 use Rattle.rules.specs.Steps.{version, part_node}
 use Rattle.rules.specs.Histories.{Event, History}
 use Rattle.rules.specs.Events.{begun}
@@ -13,10 +14,11 @@ use Rattle.rules.specs.declared.seat.Phase.{Phase}
 use Rattle.rules.specs.declared.seat.Phase.TheVariants as phase
 use Rattle.rules.specs.declared.seat.Operation.{Operation}
 use Rattle.rules.specs.declared.seat.Operation.TheVariants as operation
+use Rattle.rules.specs.declared.seat.Draft.{Draft}
 use Rattle.rules.specs.declared.seat.Seat.{Seat}
 use Rattle.rules.proofs.Cells.{word, lock}
 use Rattle.rules.proofs.Events.{Untouched, disturbed_later, disturbed_now, disturbed_cases}
-use Rattle.rules.proofs.Inv.{Setting, World, Linked, Open, post_of, owed_in, Fresh, MineIn, Uses, done_in, Filled, Begins, Doing, Reading, Hold, Taken, Unwritten, SeatIn}
+use Rattle.rules.proofs.Inv.{Setting, World, Linked, Open, post_of, owed_in, Fresh, MineIn, Uses, done_in, Filled, Begins, Planned, Doing, Reading, Hold, Taken, Unwritten, SeatIn}
 
 -- what a call of seat `a`, which makes the event `e`, may do in the eyes of a seat `y` in phase `ph`: lock words rise, content changes
 -- only with them, and the nodes that `y` alone may write stay as they are
@@ -53,6 +55,12 @@ done_small Right Right i b = b
 done_small Own Own i b = b
 done_small p q i b = omega arith
 
+-- a seat with a latch, in another phase or with another draft, while its lock word and its node's words stay
+pub hold_as : {σ : Setting} {W W' : World} (x : Seat) (d : Draft) (p : Phase) → lock W'.cells x.node ≡ lock W.cells x.node → ((j : ℕ) → W'.words x.node j ≡ W.words x.node j) → Planned σ d x.operation x.key x.copy
+    → Hold σ W x → Hold σ W' (with_draft x d p)
+hold_as x d p l w q k =
+    record { even = k.even; mine = l ∙ k.mine; low = k.low; kept = λ j b c. k.kept j b c ∙ sym (w j); there = k.there; covered = k.covered; planned = q; writes = k.writes }
+
 module _ {σ : Setting} {W W' : World} {h : History} {e : Event} {a s : ℕ} (other : a ≢ s) (odd : (t q : ℕ) → holds (e ∷ h) t ≡ Some q → lock W'.cells q % 2 ≡ 1) (u : Untouched σ.start e h s) {ph : Phase} (y : Seat) (ρ : Rely σ W W' h e a ph y) where
   doing_lasts : owed_in ph y.operation ≡ post_of y.operation → Doing σ W h s y → Doing σ W' (e ∷ h) s y
   doing_lasts w d =
@@ -82,18 +90,7 @@ module _ {σ : Setting} {W W' : World} {h : History} {e : Event} {a s : ℕ} (ot
       }
 
   hold_lasts : Open W y.node → MineIn σ.fan ph y y.node → Hold σ W y → Hold σ W' y
-  hold_lasts seen m k =
-      let l = ρ.own y.node 0 m (omega arith) in
-      record {
-        even = k.even;
-        mine = l ∙ k.mine;
-        low = k.low;
-        kept = λ j b c. k.kept j b c ∙ sym (ρ.same y.node seen l j);
-        there = k.there;
-        covered = k.covered;
-        planned = k.planned;
-        writes = k.writes;
-      }
+  hold_lasts seen m k = let l = ρ.own y.node 0 m (omega arith) in hold_as y y.draft y.phase l (ρ.same y.node seen l) k.planned k
 
   unwritten_lasts : Open W y.node → MineIn σ.fan ph y y.node → Unwritten σ W y → Unwritten σ W' y
   unwritten_lasts seen m k = λ j b c. ρ.own y.node j m c ∙ k j b c ∙ sym (ρ.same y.node seen (ρ.own y.node 0 m (omega arith)) j)

@@ -84,10 +84,6 @@ module _ {σ : Setting} {W : World} where
   pub reading_in : {h : History} {s : ℕ} (x : Seat) (i : ℕ) (p : Phase) → Reading σ W h s x i → Reading σ W h s (in_phase x p) i
   reading_in x i p r = record { even = r.even; old = r.old; front = r.front; calm = r.calm; loud = r.loud }
 
-  pub hold_in : (x : Seat) (p : Phase) → Hold σ W x → Hold σ W (in_phase x p)
-  hold_in x p k =
-      record { even = k.even; mine = k.mine; low = k.low; kept = k.kept; there = k.there; covered = k.covered; planned = k.planned; writes = k.writes }
-
 -- what an up-to-date copy shows of its node
 pub record Seen (σ : Setting) (W : World) (x : Seat) : Type 0 where
   pub node_is : N.Node

@@ -18,9 +18,9 @@ use Rattle.rules.proofs.Basics.{both}
 use Rattle.rules.proofs.Cells.{word, put, lock, word_put, word_put_word, word_put_node, length_put}
 use Rattle.rules.proofs.Events.{answer_of, holds_own, place_own, begun_own, publishings_own}
 use Rattle.rules.proofs.Inv.{Setting, World, Open, post_of, Fresh, MineIn, Uses, first, done_in, Filled, Begins, Planned, Hold, Taken, SeatIn, Inv}
-use Rattle.rules.proofs.Rely.{begins_same, doing_open}
+use Rattle.rules.proofs.Rely.{begins_same, doing_open, hold_as}
 use Rattle.rules.proofs.Good.{holding, owed, Mine, StepLaws, laws_plain, laws_test, Writing, with_cells, good_write, writing_none, latched_none, good_calm}
-use Rattle.rules.proofs.Steps.{Stepped, stepped_as, stepped_calm, quiet_gone, holds_quiet, plain_quiet, hold_in, doing_in, doing_quiet}
+use Rattle.rules.proofs.Steps.{Stepped, stepped_as, stepped_calm, quiet_gone, holds_quiet, plain_quiet, doing_in, doing_quiet}
 use Rattle.rules.proofs.Readers.{stopped_paid}
 
 -- nobody writes a linked node with no latch
@@ -199,7 +199,7 @@ module _ {σ : Setting} {W : World} {f : ℕ → Seat} {h : History} (ι : Inv �
         let x = f s in
         let r = GoneOn x.node in
         stepped_calm ι s b8 (in_phase x phase.Undo) r (quiet_gone x.node) (sym own_held) mine_t owing_t
-        (doing_in ι s b8 r (quiet_gone x.node) x phase.Undo k.0, hold_in x phase.Undo k.1, now_t, k.3) (ι.sizes s b8) laws_t
+        (doing_in ι s b8 r (quiet_gone x.node) x phase.Undo k.0, hold_as x x.draft phase.Undo refl (λ _. refl) k.1.planned k.1, now_t, k.3) (ι.sizes s b8) laws_t
 
     -- taking nodes leaves the entries as drafted
     planned_t : Planned σ (with_nodes (f s) W.count) (f s).operation (f s).key (f s).copy
@@ -208,9 +208,7 @@ module _ {σ : Setting} {W : World} {f : ℕ → Seat} {h : History} (ι : Inv �
         record { frees = a.frees; rows_are = a.rows_are; len_is = a.len_is; left_is = a.left_is; edge_is = a.edge_is; outcome_is = a.outcome_is }
 
     hold_t : (ph : Phase) → Hold σ (with_cells W W.cells (W.count + needed (f s))) (with_draft (f s) (with_nodes (f s) W.count) ph)
-    hold_t ph =
-        let a = k.1 in
-        record { even = a.even; mine = a.mine; low = a.low; kept = a.kept; there = a.there; covered = a.covered; planned = planned_t; writes = a.writes }
+    hold_t ph = hold_as (f s) (with_nodes (f s) W.count) ph refl (λ _. refl) planned_t k.1
 
     right_in : (b : Bool) (c : ℕ) → (c ≤ cond b (c + 1) c) × (cond b (c + 1) c < c + cond b 2 1)
     right_in true c = (omega arith, omega arith)
