@@ -254,20 +254,6 @@ module _ (σ : Setting) (iskey : ℕ → Bool) (keyed : (k : ℕ) → iskey k �
     step_accepted : Kept σ iskey h (Step i) (step_by (norm σ iskey m c ss) i (due_in x.phase (access_of X x)))
     step_accepted = subst (Kept σ iskey h (Step i)) (step_same (due_in x.phase (access_of X x))) (step_in x.phase refl (ι.seats i))
 
-    -- a seat begins
-    begins_kept : (call : Call) (k : ℕ) (t : Operation) (b : Begun) → seat_of call ≡ i → ((s : ℕ) → LawsAt σ.start h (answer_of call (GoneOn 0)) s) → post_of t ≡ None
-        → Restarted σ.start (answer_of call (GoneOn 0)) h i b → ((h' : History) → Restarted σ.start (answer_of call (GoneOn 0)) h i b → Begins σ.start (answer_of call (GoneOn 0) ∷ h) i t k)
-        → is_idle x.phase ≡ true → (ltb σ.top k || ltb σ.top (value_of t)) ≡ false → iskey k ≡ true
-        → Kept σ iskey h call (Ok (GoneOn 0), with_seat (norm σ iskey m c ss) i (starting_out x k t))
-    begins_kept call k t b whose laws free R bg idle low key =
-        let e = answer_of call (GoneOn 0) in
-        let x' = starting_out x k t in
-        let none : holding x ≡ None = rw (idle_is x.phase idle) refl in
-        let seat0 = ((tree_stands σ.order).seats_start g ι.nodes.sound).0 k (keyed k key (ltb-false σ.top k (or_parts (ltb σ.top k) (ltb σ.top (value_of t)) low).0)) in
-        let G = good_calm ι e i x' (sym none) (λ q z. absurd z) (λ d z. absurd (none-some d (sym free ∙ z))) (λ _. refl)
-        (record { seated = rw free seat0; begins = bg h R }, rw R.place_is refl, rw R.place_is refl) R.holds_same (λ _. ι.sizes i b8) in
-        called_kept call (GoneOn 0) x' m c w g G whose laws
-
     -- a seat is freed
     freed_kept : (p : Bool) → holding x ≡ None → PublishedAs σ.start h i p → Kept σ iskey h (Abandon i) (Ok (Abandoned p), with_seat (norm σ iskey m c ss) i (in_phase x phase.Idle))
     freed_kept p none published =
@@ -291,30 +277,37 @@ module _ (σ : Setting) (iskey : ℕ → Bool) (keyed : (k : ℕ) → iskey k �
     abandon_in (phase.End r) e k = freed_kept _ (rw e refl) (ended_published σ.start h i r k.0)
     abandon_in ph e k = refuse (Abandon i) _
 
-  step_kept : (i : ℕ) → Kept σ iskey h (Step i) (step (norm σ iskey m c ss) i)
-  step_kept i =
-      let P : Result (Option Access) Refusal → Type 0 = λ d. Kept σ iskey h (Step i) (step_by (norm σ iskey m c ss) i d) in
-      cond_both (eqb σ.fan 0) _ _ P (λ _. refuse (Step i) _)
-      (λ _. cond_both (ltb i 8) _ _ P (λ b. step_accepted i (ltb-true i 8 b)) (λ _. refuse (Step i) _))
+  -- the index is formatted and has the seat, or the call is refused
+  gated : {A : Type 0} (P : A → Type 0) (i : ℕ) (u v y : A) → P u → P v → (i < 8 → P y) → P (cond (eqb σ.fan 0) u (cond (ltb i 8) y v))
+  gated P i u v y a b k = cond_both (eqb σ.fan 0) _ _ P (λ _. a) (λ _. cond_both (ltb i 8) _ _ P (λ l. k (ltb-true i 8 l)) (λ _. b))
 
-  begin_kept : (call : Call) (i k : ℕ) (t : Operation) (b : Begun) → seat_of call ≡ i → ((s : ℕ) → LawsAt σ.start h (answer_of call (GoneOn 0)) s) → post_of t ≡ None
-      → Restarted σ.start (answer_of call (GoneOn 0)) h i b → ((h' : History) → Restarted σ.start (answer_of call (GoneOn 0)) h i b → Begins σ.start (answer_of call (GoneOn 0) ∷ h) i t k)
-      → Kept σ iskey h call (begin (norm σ iskey m c ss) i k t)
-  begin_kept call i k t b whose laws free R bg =
-      let P : Result Report Refusal × State → Type 0 = Kept σ iskey h call in
-      cond_both (eqb σ.fan 0) _ _ P (λ _. refuse call _)
-      (λ _. cond_both (ltb i 8) _ _ P
-      (λ b8. cond_both (is_idle (seat_at ss i).phase) _ _ P
-      (λ idle. cond_both (ltb σ.top k || ltb σ.top (value_of t)) _ _ P (λ _. refuse call _)
-      (λ low. cond_both (iskey k) _ _ P (λ key. begins_kept i (ltb-true i 8 b8) call k t b whose laws free R bg idle low key) (λ _. refuse call _)))
-      (λ _. refuse call _))
-      (λ _. refuse call _))
+  step_kept : (i : ℕ) → Kept σ iskey h (Step i) (step (norm σ iskey m c ss) i)
+  step_kept i = gated (λ d. Kept σ iskey h (Step i) (step_by (norm σ iskey m c ss) i d)) i _ _ _ (refuse (Step i) _) (refuse (Step i) _) (step_accepted i)
 
   abandon_kept : (i : ℕ) → Kept σ iskey h (Abandon i) (abandon (norm σ iskey m c ss) i)
-  abandon_kept i =
-      let P : Result Report Refusal × State → Type 0 = Kept σ iskey h (Abandon i) in
-      cond_both (eqb σ.fan 0) _ _ P (λ _. refuse (Abandon i) _)
-      (λ _. cond_both (ltb i 8) _ _ P (λ b. abandon_in i (ltb-true i 8 b) (seat_at ss i).phase refl (ι.seats i)) (λ _. refuse (Abandon i) _))
+  abandon_kept i = gated (Kept σ iskey h (Abandon i)) i _ _ _ (refuse (Abandon i) _) (refuse (Abandon i) _) (λ b. abandon_in i b (seat_at ss i).phase refl (ι.seats i))
+
+  -- a seat begins
+  module _ (call : Call) (i k : ℕ) (t : Operation) (b : Begun) (whose : seat_of call ≡ i) (laws : (s : ℕ) → LawsAt σ.start h (answer_of call (GoneOn 0)) s) (free : post_of t ≡ None)
+      (R : Restarted σ.start (answer_of call (GoneOn 0)) h i b) (bg : Begins σ.start (answer_of call (GoneOn 0) ∷ h) i t k) where
+    begins_kept : i < 8 → is_idle (seat_at ss i).phase ≡ true → (ltb σ.top k || ltb σ.top (value_of t)) ≡ false → iskey k ≡ true
+        → Kept σ iskey h call (Ok (GoneOn 0), with_seat (norm σ iskey m c ss) i (starting_out (seat_at ss i) k t))
+    begins_kept b8 idle low key =
+        let x' = starting_out (seat_at ss i) k t in
+        let none : holding (seat_at ss i) ≡ None = rw (idle_is (seat_at ss i).phase idle) refl in
+        let seat0 = ((tree_stands σ.order).seats_start g ι.nodes.sound).0 k (keyed k key (ltb-false σ.top k (or_parts (ltb σ.top k) (ltb σ.top (value_of t)) low).0)) in
+        let G = good_calm ι (answer_of call (GoneOn 0)) i x' (sym none) (λ q z. absurd z) (λ d z. absurd (none-some d (sym free ∙ z))) (λ _. refl)
+        (record { seated = rw free seat0; begins = bg }, rw R.place_is refl, rw R.place_is refl) R.holds_same (λ _. ι.sizes i b8) in
+        called_kept i b8 call (GoneOn 0) x' m c w g G whose laws
+
+    begin_kept : Kept σ iskey h call (begin (norm σ iskey m c ss) i k t)
+    begin_kept =
+        let P : Result Report Refusal × State → Type 0 = Kept σ iskey h call in
+        gated P i _ _ _ (refuse call _) (refuse call _)
+        (λ b8. cond_both (is_idle (seat_at ss i).phase) _ _ P
+        (λ idle. cond_both (ltb σ.top k || ltb σ.top (value_of t)) _ _ P (λ _. refuse call _)
+        (λ low. cond_both (iskey k) _ _ P (begins_kept b8 idle low) (λ _. refuse call _)))
+        (λ _. refuse call _))
 
   format_kept : (fan : ℕ) → Kept σ iskey h (Format fan) (format (norm σ iskey m c ss) fan)
   format_kept fan =
@@ -325,7 +318,11 @@ module _ (σ : Setting) (iskey : ℕ → Bool) (keyed : (k : ℕ) → iskey k �
 
   pub act_kept : (call : Call) → Kept σ iskey h call (act call (norm σ iskey m c ss))
   act_kept (Format fan) = format_kept fan
-  act_kept (BeginFind i k) = begin_kept (BeginFind i k) i k operation.Find (finding k) refl (λ s. begin_laws (answer_of (BeginFind i k) (GoneOn 0)) s refl refl) refl (restarted_find σ.start h i k) (λ _ R. (R.begun_is, R.publishings_is))
-  act_kept (BeginPut i k v) = begin_kept (BeginPut i k v) i k (operation.Put v) (putting k v) refl (λ s. begin_laws (answer_of (BeginPut i k v) (GoneOn 0)) s refl refl) refl (restarted_put σ.start h i k v) (λ _ R. (R.begun_is, R.publishings_is))
+  act_kept (BeginFind i k) =
+      let R = restarted_find σ.start h i k in
+      begin_kept (BeginFind i k) i k operation.Find (finding k) refl (λ s. begin_laws (answer_of (BeginFind i k) (GoneOn 0)) s refl refl) refl R (R.begun_is, R.publishings_is)
+  act_kept (BeginPut i k v) =
+      let R = restarted_put σ.start h i k v in
+      begin_kept (BeginPut i k v) i k (operation.Put v) (putting k v) refl (λ s. begin_laws (answer_of (BeginPut i k v) (GoneOn 0)) s refl refl) refl R (R.begun_is, R.publishings_is)
   act_kept (Step i) = step_kept i
   act_kept (Abandon i) = abandon_kept i

@@ -1,6 +1,7 @@
 -- A release, whatever update of the tree it makes: the written nodes become content, and the other seats' facts last.
-use Rattle.std.proofs.Common.{◌≡◌, ℕ, ◌%◌, ◌<◌, Bool, true, false, cond, ◌&&◌, ◌||◌, eqb, ◌≢◌, ◌⊎◌, List, ◌∷◌, length, Some, None, Option, sym, refl, ap, ◌∙◌, inl, inr, ⊎_elim, arith}
-use Rattle.std.proofs.lemmas.Bool.{cases_eq, cases_Bool, cond-true, cond-false, eq-eqb, eqb-true, or_cases, or_left, or_right, and_parts, and_from, true≢false}
+use Rattle.std.proofs.Common.{◌≡◌, ℕ, ◌%◌, ◌<◌, Bool, true, false, cond, ◌&&◌, ◌||◌, eqb, ◌≢◌, ◌⊎◌, List, ◌∷◌, length, Some, None, Decides, Option, sym, refl, ap, ◌∙◌, inl, inr, ⊎_elim, arith}
+use Rattle.std.proofs.lemmas.Bool.{cases_eq, cases_Bool, cond-true, cond-false, false_from_ne_true}
+use Rattle.std.proofs.lemmas.Bool.Decides.{not_from_Decides, Decides-and, Decides-or, Decides-eqb}
 use Rattle.std.proofs.lemmas.Option.{same_Some}
 use Rattle.tree.specs.Tree as T
 use Rattle.tree.specs.Updates as U
@@ -29,36 +30,13 @@ abbrev pub ours : ℕ → Seat → ℕ → Bool
 ours fan x q = eqb q x.node || (splits fan x.draft && (eqb q x.draft.right || (is_root x && eqb q x.draft.left)))
 
 module _ (fan : ℕ) (x : Seat) (q : ℕ) where
-  ours_true : ours fan x q ≡ true → Ours fan x q
-  ours_true e =
-      elim (or_cases (eqb q x.node) _ e) [
-        | inl z ↦ inl (eqb-true q x.node z)
-        | inr z ↦
-            (let p = and_parts (splits fan x.draft) (eqb q x.draft.right || (is_root x && eqb q x.draft.left)) z in
-            inr (
-              p.0,
-              elim (or_cases (eqb q x.draft.right) (is_root x && eqb q x.draft.left) p.1) [
-                | inl y ↦ inl (eqb-true q x.draft.right y)
-                | inr y ↦ (let r = and_parts (is_root x) (eqb q x.draft.left) y in inr (r.0, eqb-true q x.draft.left r.1))
-              ],
-            ))
-      ]
-
-  true_ours : Ours fan x q → ours fan x q ≡ true
-  true_ours (inl z) = or_left (eqb q x.node) (splits fan x.draft && (eqb q x.draft.right || (is_root x && eqb q x.draft.left))) (eq-eqb q x.node z)
-  true_ours (inr (b, inl z)) =
-      or_right (eqb q x.node) (splits fan x.draft && (eqb q x.draft.right || (is_root x && eqb q x.draft.left)))
-      (and_from (splits fan x.draft) (eqb q x.draft.right || (is_root x && eqb q x.draft.left)) b (or_left (eqb q x.draft.right) (is_root x && eqb q x.draft.left) (eq-eqb q x.draft.right z)))
-  true_ours (inr (b, inr (c, z))) =
-      or_right (eqb q x.node) (splits fan x.draft && (eqb q x.draft.right || (is_root x && eqb q x.draft.left)))
-      (and_from (splits fan x.draft) (eqb q x.draft.right || (is_root x && eqb q x.draft.left)) b
-      (or_right (eqb q x.draft.right) (is_root x && eqb q x.draft.left) (and_from (is_root x) (eqb q x.draft.left) c (eq-eqb q x.draft.left z))))
+  decides : Decides (ours fan x q) (Ours fan x q)
+  decides =
+      Decides-or _ _ (Decides-eqb q x.node)
+      (Decides-and _ _ (λ e. e, λ e. e) (Decides-or _ _ (Decides-eqb q x.draft.right) (Decides-and _ _ (λ e. e, λ e. e) (Decides-eqb q x.draft.left))))
 
   decide : Ours fan x q ⊎ ¬ (Ours fan x q)
-  decide = elim (cases_Bool (ours fan x q)) [ inl e ↦ inl (ours_true e) | inr e ↦ inr (λ z. true≢false (sym (true_ours z) ∙ e)) ]
-
-  false_ours : ¬ (Ours fan x q) → ours fan x q ≡ false
-  false_ours d = elim (cases_Bool (ours fan x q)) [ inl e ↦ absurd (d (ours_true e)) | inr e ↦ e ]
+  decide = elim (cases_Bool (ours fan x q)) [ inl e ↦ inl (decides.0 e) | inr e ↦ inr (not_from_Decides (ours fan x q) decides e) ]
 
 -- what the nodes hold after the release
 abbrev pub written : ℕ → World → Seat → ℕ → ℕ → ℕ
@@ -95,10 +73,10 @@ module _ {σ : Setting} {W : World} {f : ℕ → Seat} {h : History} (ι : Inv �
   fresh_lock q z = elim z.1 [ inl y ↦ rw y (k.4 Right z.0 0 (omega arith) (omega arith)) | inr y ↦ rw y.1 (k.4 Left (z.0, y.0) 0 (omega arith) (omega arith)) ]
 
   words_ours : (q i : ℕ) → Ours σ.fan (f s) q → written σ.fan W (f s) q i ≡ word W.cells q i
-  words_ours q i z = cond-true (ours σ.fan (f s) q) _ _ (true_ours σ.fan (f s) q z)
+  words_ours q i z = cond-true (ours σ.fan (f s) q) _ _ ((decides σ.fan (f s) q).1 z)
 
   words_other : (q i : ℕ) → ¬ (Ours σ.fan (f s) q) → written σ.fan W (f s) q i ≡ W.words q i
-  words_other q i z = cond-false (ours σ.fan (f s) q) _ _ (false_ours σ.fan (f s) q z)
+  words_other q i z = cond-false (ours σ.fan (f s) q) _ _ (false_from_ne_true (ours σ.fan (f s) q) (λ e. z ((decides σ.fan (f s) q).0 e)))
 
   not_fresh : (q : ℕ) → Open W q → q ≢ (f s).node → ¬ (Ours σ.fan (f s) q)
   not_fresh q o d z = ⊎_elim d (λ y. k.3.hidden q y o) z
