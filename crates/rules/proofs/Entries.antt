@@ -28,43 +28,23 @@ module _ (before : ℕ → ℕ → Bool) where
   pub row_post : (m d : ℕ) (es : List Entry) → row (post_in before m d es) ≡ N.posted before (row es) m d
   row_post m d [] = refl
   row_post m d (e ∷ []) = refl
-  row_post m d (e ∷ (f ∷ es)) =
-      elim (cases_Bool (before e.key m)) [ inl b ↦ rw b (ap (λ z. as_entry e ∷ z) (row_post m d (f ∷ es))) | inr b ↦ rw b refl ]
+  row_post m d (e ∷ (f ∷ es)) = grind (arith, row_post m d (f ∷ es))
 
   -- the rules ask `before` first, the tree asks for the same key first
   pub row_put : (k v : ℕ) → before k k ≡ false → (es : List Entry) → row (put_in before k v es) ≡ N.insert before (row es) k v
   row_put k v never [] = refl
-  row_put k v never (e ∷ es) =
-      elim (cases_Bool (eqb e.key k)) [
-        | inl same ↦ (let b : before e.key k ≡ false = rw (eqb-true e.key k same) never in rw (b, same) refl)
-        | inr other ↦ rw other (elim (cases_Bool (before e.key k)) [ inl b ↦ rw b (ap (λ z. as_entry e ∷ z) (row_put k v never es)) | inr b ↦ rw b refl ])
-      ]
+  row_put k v never (e ∷ es) = grind (arith, nat_tests, row_put k v never es)
 
   -- a put that makes the row longer put a new key
   pub found_new : (k v : ℕ) (es : List Entry) → length es < length (put_in before k v es) → found before k es ≡ None
   found_new k v [] h = refl
-  found_new k v (e ∷ es) h =
-      elim (cases_Bool (before e.key k)) [
-        | inl b ↦ rw b (found_new k v es (let z : suc (length es) < suc (length (put_in before k v es)) = rw b at h in omega arith))
-        | inr b ↦ rw b (elim (cases_Bool (eqb e.key k)) [ inl s ↦ absurd (let z : suc (length es) < suc (length es) = rw (b, s) at h in omega arith) | inr s ↦ rw s refl ])
-      ]
+  found_new k v (e ∷ es) h = grind (arith, nat_tests, found_new k v es)
 
 module _ (o : T.Order) where
   past : (k lo hi : ℕ) (es : List N.Entry) → T.Key o k → o.rank k < lo → T.Leaf o lo hi es → N.lookup es k ≡ None
   past k lo hi [] κ b l = refl
-  past k lo hi (N.entry e v ∷ es) κ b l =
-      let d : e ≢ k = λ z. omega (arith, ap o.rank z, l.1) in
-      rw (ne_eqb e k d) (past k (suc (o.rank e)) hi es κ (omega (arith, l.1)) l.2)
+  past k lo hi (N.entry e v ∷ es) κ b l = grind (arith, nat_tests, past k (suc (o.rank e)) hi es κ)
 
   pub found_is : (k lo hi : ℕ) (es : List Entry) → T.Key o k → T.Leaf o lo hi (row es) → found o.before k es ≡ N.lookup (row es) k
   found_is k lo hi [] κ l = refl
-  found_is k lo hi (e ∷ es) κ l =
-      let is = o.before_is e.key k l.0 κ in
-      elim (cases_Bool (eqb e.key k)) [
-        | inl same ↦ (let z = eqb-true e.key k same in let b : o.before e.key k ≡ false = is ∙ grind (arith, nat_tests, ap o.rank z) in rw (b, same) refl)
-        | inr other ↦
-            rw other (elim (cases_Bool (o.before e.key k)) [
-              | inl b ↦ rw b (found_is k (suc (o.rank e.key)) hi es κ l.2)
-              | inr b ↦ rw b (sym (past k (suc (o.rank e.key)) hi (row es) κ (omega (arith, ltb-false (o.rank e.key) (o.rank k) (sym is ∙ b))) l.2))
-            ])
-      ]
+  found_is k lo hi (e ∷ es) κ l = grind (arith, nat_tests, o.before_is e.key k l.0 κ, past k (suc (o.rank e.key)) hi (row es) κ, found_is k (suc (o.rank e.key)) hi es κ l.2)

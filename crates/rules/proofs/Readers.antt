@@ -198,7 +198,7 @@ module _ {σ : Setting} {W : World} {f : ℕ → Seat} {h : History} (ι : Inv �
         rw looked_at.shown.link_is (moves y.link d (goes_on.right c'))
 
     other_level : (y : N.Node) (v lo a b : ℕ) (p : T.Place) → y.level ≡ suc v → p ≡ T.held y a b → T.Is v lo p → ⊥
-    other_level y v lo a b p z q i = let j : T.Is v lo (T.held y a b) = rw q at i in omega (arith, j.0)
+    other_level y v lo a b p z q i = grind arith
 
     not_child : (v : ℕ) → looked_at.node_is.level ≡ v → (f s).aim < v → N.child σ.order.before looked_at.node_is.entries (f s).key ≢ (f s).node
     not_child zero z b c = omega arith

@@ -33,11 +33,7 @@ length_zeroed (suc n) cs = length-set (zeroed n cs) n 0 ∙ length_zeroed n cs
 
 zeroed_at : (n i : ℕ) (cs : List ℕ) → i < n → n ≤ length cs → get_or (zeroed n cs) i 0 ≡ 0
 zeroed_at zero i cs a b = absurd (omega arith)
-zeroed_at (suc n) i cs a b =
-    elim (cases_eq i n) [
-      | inl z ↦ rw z (get_or-set_same (zeroed n cs) n 0 0 (omega (arith, length_zeroed n cs)))
-      | inr d ↦ get_or-set_other (zeroed n cs) n i 0 0 d ∙ zeroed_at n i cs (omega arith) (omega arith)
-    ]
+zeroed_at (suc n) i cs a b = grind (arith, length_zeroed n cs, zeroed_at n i cs, get_or-set_same (zeroed n cs) n 0 0, get_or-set_other (zeroed n cs) n i 0 0)
 
 word_zeroed : (i : ℕ) (cs : List ℕ) → i < 32 → 32 ≤ length cs → word (zeroed 32 cs) 0 i ≡ 0
 unfolding word

@@ -16,15 +16,7 @@ pub record Encodes (w : ℕ → ℕ) (y : N.Node) : Type 0 where
   pub each : (j i : ℕ) → i ≡ 2 * j → j < length y.entries → N.entry (w (6 + i)) (w (7 + i)) ≡ get_or y.entries j (N.entry 0 0)
 
 pub encodes_same : (w u : ℕ → ℕ) (y : N.Node) → ((i : ℕ) → 0 < i → i < 32 → u i ≡ w i) → Encodes w y → Encodes u y
-encodes_same w u y same e =
-    record {
-      level_is = same 1 (omega arith) (omega arith) ∙ e.level_is;
-      size_is = same 2 (omega arith) (omega arith) ∙ e.size_is;
-      few = e.few;
-      link_is = same 3 (omega arith) (omega arith) ∙ e.link_is;
-      high_is = same 4 (omega arith) (omega arith) ∙ e.high_is;
-      each = λ j i z b. rw (same (6 + i) (omega arith) (omega (arith, e.few)), same (7 + i) (omega arith) (omega (arith, e.few))) (e.each j i z b);
-    }
+encodes_same w u y same e = grind arith
 
 pairs : (ws : List ℕ) (es : List N.Entry) → 2 * length es ≤ length ws
     → ((j i : ℕ) → i ≡ 2 * j → j < length es → N.entry (get_or ws i 0) (get_or ws (suc i) 0) ≡ get_or es j (N.entry 0 0)) → row (take (length es) (paired ws)) ≡ es

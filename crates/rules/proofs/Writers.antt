@@ -219,11 +219,7 @@ module _ {σ : Setting} {W : World} {f : ℕ → Seat} {h : History} (ι : Inv �
     left_in false c n e = both false e refl
 
     fresh_in : (ph : Phase) (q : ℕ) → Fresh σ.fan (with_draft (f s) (with_nodes (f s) W.count) ph) q → (W.count ≤ q) × (q < W.count + needed (f s))
-    fresh_in ph q z =
-        elim z.1 [
-          | inl y ↦ (let b = right_in (is_root (f s)) W.count in (omega arith, omega arith))
-          | inr y ↦ (let b = left_in (is_root (f s)) W.count (f s).node y.0 in (omega arith, omega arith))
-        ]
+    fresh_in ph q z = grind arith
 
     taken_t : (ph : Phase) → Taken σ (with_cells W W.cells (W.count + needed (f s))) (with_draft (f s) (with_nodes (f s) W.count) ph)
     taken_t ph =
