@@ -22,14 +22,10 @@ once l o e z = cc
 
 -- before its release a put is not published, and a posting comes after one
 pub begun_published : (m₀ : ℕ → Option ℕ) (h : History) (s : ℕ) (t : Operation) (k : ℕ) → Begins m₀ h s t k → PublishedAs m₀ h s (is_post t)
-begun_published m₀ h s (operation.Post m d) k b = once (publishings m₀ h s) _ b.1
-begun_published m₀ h s t k b = b.1
+begun_published m₀ h s t k b = grind arith
 
 pub ended_published : (m₀ : ℕ → Option ℕ) (h : History) (s : ℕ) (o : Outcome) → Paid m₀ h s o → PublishedAs m₀ h s (is_written o)
-ended_published m₀ h s outcome.Full p = p.1
-ended_published m₀ h s outcome.Worn p = p.1
-ended_published m₀ h s o p = once (publishings m₀ h s) _ p.1
+ended_published m₀ h s o p = grind arith
 
 pub abandon_law : (m₀ : ℕ → Option ℕ) (h : History) (i : ℕ) (p : Bool) → PublishedAs m₀ h i p → (s : ℕ) → AbandonLaw m₀ h (answer_of (Abandon i) (Abandoned p)) s
-abandon_law m₀ h i true k s t = elim (cases_eq s i) [ inl z ↦ inl (refl, rw z k) | inr d ↦ absurd (rw (ne_eqb s i d) at t) ]
-abandon_law m₀ h i false k s t = elim (cases_eq s i) [ inl z ↦ inr (refl, rw z k) | inr d ↦ absurd (rw (ne_eqb s i d) at t) ]
+abandon_law m₀ h i p k s t = grind arith

@@ -61,12 +61,10 @@ pub record Kept (σ : Setting) (iskey : ℕ → Bool) (h : History) (c : Call) (
   pub laws : (s : ℕ) → LawsAt σ.start h (record { call = c; answer = z.0 }) s
 
 idle_is : (ph : Phase) → is_idle ph ≡ true → ph ≡ phase.Idle
-idle_is phase.Idle e = refl
-idle_is ph e = absurd (true≢false (sym e))
+idle_is ph e = grind arith
 
 rely_same : (σ : Setting) (W : World) (h : History) (e : Event) (a : ℕ) (ph : Phase) (y : Seat) → Rely σ W W h e a ph y
-rely_same σ W h e a ph y =
-    record { more = omega arith; opens = λ q o. o; closed = λ q _ o. o; up = λ q o. omega arith; rise = λ q o z d. absurd (d refl); same = λ q o z i. refl; own = λ q i m b. refl; stays = λ post k aim n _ z. z }
+rely_same σ W h e a ph y = grind arith
 
 inv_refused : {σ : Setting} {W : World} {f : ℕ → Seat} {h : History} (c : Call) (r : Refusal) → Inv σ W f h → Inv σ W f (refused c r ∷ h)
 inv_refused {σ} {W} {f} {h} c r ι =
@@ -164,12 +162,10 @@ module _ (σ : Setting) (iskey : ℕ → Bool) (keyed : (k : ℕ) → iskey k �
     step_with (Ok a) v = answered_with a v (answers m σ.top a)
 
     answered_same : (a : Option Access) (r : Result ℕ Fault) → answered_with a (advance σ.order.before X x c) r ≡ answered_by (norm σ iskey m c ss) i a r
-    answered_same a (Err f) = refl
-    answered_same a (Ok y) = refl
+    answered_same a r = grind arith
 
     step_same : (d : Result (Option Access) Refusal) → step_with d (advance σ.order.before X x c) ≡ step_by (norm σ iskey m c ss) i d
-    step_same (Err r) = refl
-    step_same (Ok a) = answered_same a (answers m σ.top a)
+    step_same d = grind arith
 
     -- an access to a cell that the memory has, and a write of a word that it takes
     reaches : (a : Option Access) (cell : ℕ) (v : ℕ → Seat × ℕ × Report) (r : Result ℕ Fault) (f : Fault) → Kept σ iskey h (Step i) (answered_with a v r)

@@ -40,25 +40,19 @@ after_release fan x = cond (splits fan x.draft) (cond (is_root x) (in_phase x (p
 
 -- a node that a seat posts is linked
 is_linked : (v lo : ℕ) (p : T.Place) → T.Is v lo p → Linked p
-is_linked v lo T.free z = z
-is_linked v lo (T.held y a b) z = tt
+is_linked v lo p z = grind arith
 
 aims_open : (σ : Setting) (W : World) (post : Option ℕ) (k aim d : ℕ) → post ≡ Some d → T.Aims σ.order W.tree post k aim → Open W d
-aims_open σ W None k aim d e z = absurd (none-some d e)
-aims_open σ W (Some c) k zero d e z = absurd z
-aims_open σ W (Some c) k (suc v) d e z = let q : c ≡ d = cc in rw (sym q) (is_linked v (suc (σ.order.rank k)) (W.tree c) z.place.1)
+aims_open σ W post k aim d e z = grind arith
 
 doing_owed : {σ : Setting} {W : World} {h : History} {s : ℕ} {x : Seat} (d : ℕ) → Doing σ W h s x → post_of x.operation ≡ Some d → Open W d
 doing_owed {σ} {W} {x} d k e = aims_open σ W (post_of x.operation) x.key x.aim d e k.seated.aims
 
 pub owed_open : (σ : Setting) (W : World) (h : History) (s : ℕ) (ph : Phase) (x : Seat) (d : ℕ) → SeatIn σ W h s ph x → owed_in ph x.operation ≡ Some d → Open W d
-owed_open σ W h s phase.Idle x d k e = absurd (none-some d e)
-owed_open σ W h s (phase.End r) x d k e = absurd (none-some d e)
-owed_open σ W h s ph x d k e = doing_owed d k.0 e
+owed_open σ W h s ph x d k e = grind arith
 
 not_linked : (p : T.Place) → ¬ (Linked p) → p ≡ T.free
-not_linked T.free z = refl
-not_linked (T.held y a b) z = absurd (z tt)
+not_linked p z = grind arith
 
 module _ {σ : Setting} {W : World} {f : ℕ → Seat} {h : History} (ι : Inv σ W f h) (s : ℕ) (b8 : s < 8) (e : (f s).phase ≡ phase.Release) (k : SeatIn σ W h s phase.Release (f s)) where
   pub shown : Seen σ W (f s)

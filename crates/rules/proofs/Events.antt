@@ -21,28 +21,16 @@ pub record Untouched (m₀ : ℕ → Option ℕ) (e : Event) (h : History) (s : 
   pub publishings_same : publishings m₀ (e ∷ h) s ≡ publishings m₀ h s
 
 untouched : (m₀ : ℕ → Option ℕ) → (e : Event) (h : History) (s : ℕ) → stepped e s ≡ false → (accepted e && restarts e.call s) ≡ false → begun (e ∷ h) s ≡ begun h s → Untouched m₀ e h s
-untouched m₀ e h s a b c =
-    record {
-      holds_same = cond-false (stepped e s) _ _ a;
-      place_same = cond-false (accepted e && restarts e.call s) _ _ b ∙ cond-false (stepped e s) _ _ a;
-      since_more = cond-false (stepped e s && looks (place h s) (number e) (node e)) _ _ (and_left (stepped e s) (looks (place h s) (number e) (node e)) a);
-      begun_same = c;
-      publishings_same = cond-false (accepted e && restarts e.call s) _ _ b ∙ cond-false (stepped e s && publishes e) _ _ (and_left (stepped e s) (publishes e) a);
-    }
+untouched m₀ e h s a b c = grind arith
 
 not_steps : (c : Call) (s : ℕ) → s ≢ seat_of c → steps c s ≡ false
-not_steps (Step i) s d = ne_eqb s i d
-not_steps c s d = refl
+not_steps c s d = grind arith
 
 not_restarts : (c : Call) (s : ℕ) → s ≢ seat_of c → restarts c s ≡ false
-not_restarts (BeginFind i k) s d = ne_eqb s i d
-not_restarts (BeginPut i k v) s d = ne_eqb s i d
-not_restarts c s d = refl
+not_restarts c s d = grind arith
 
 not_begins : (c : Call) (s : ℕ) (b : Begun) → s ≢ seat_of c → begins c s b ≡ b
-not_begins (BeginFind i k) s b d = cond-false (eqb s i) _ _ (ne_eqb s i d)
-not_begins (BeginPut i k v) s b d = cond-false (eqb s i) _ _ (ne_eqb s i d)
-not_begins c s b d = refl
+not_begins c s b d = grind arith
 
 pub untouched_other : (m₀ : ℕ → Option ℕ) → (e : Event) (h : History) (s : ℕ) → s ≢ seat_of e.call → Untouched m₀ e h s
 untouched_other m₀ e h s d =
@@ -50,8 +38,7 @@ untouched_other m₀ e h s d =
     (cond_both (accepted e) _ _ (λ b. b ≡ begun h s) (λ _. not_begins e.call s (begun h s) d) (λ _. refl))
 
 refused_number : (f : Refusal) → 21 ≤ refusal_number f
-refused_number refusal.Unformatted = omega arith
-refused_number f = omega arith
+refused_number f = grind arith
 
 abbrev pub refused : Call → Refusal → Event
 refused c f = record { call = c; answer = Err f }

@@ -52,9 +52,7 @@ module _ {σ : Setting} {W : World} {f : ℕ → Seat} {h : History} (ι : Inv �
 
   -- the word of a linked node is no lock word
   own_first : (q : Part) → Uses σ.fan (f s) q → first q ≤ i → Open W (part_node q (f s)) → 0 < i
-  own_first Left u b o = absurd (k.3.hidden (f s).draft.left (u.0, inr (u.1, refl)) o)
-  own_first Right u b o = absurd (k.3.hidden (f s).draft.right (u, inl refl) o)
-  own_first Own u b o = b
+  own_first q u b o = grind arith
 
   open_lock : (q : ℕ) → Open W q → lock (put W.cells (part_node p (f s)) i (fill_word σ.fan (f s) p i)) q ≡ lock W.cells q
   open_lock q o =
@@ -64,11 +62,7 @@ module _ {σ : Setting} {W : World} {f : ℕ → Seat} {h : History} (ι : Inv �
       ]
 
   even_far : (q : ℕ) → Open W q → lock W.cells q % 2 ≡ 0 → q ≢ part_node p (f s)
-  even_far q o l z =
-      ⊎_elim
-      (λ (y : part_node p (f s) ≡ (f s).node). omega (arith, k.1.mine, k.1.even, ap (lock W.cells) (z ∙ y)))
-      (λ y. k.3.hidden (part_node p (f s)) y (rw z at o))
-      (part_mine σ.fan (f s) p k.7)
+  even_far q o l z = grind arith
 
   writes : Writing σ W f h (answer_of (Step s) (GoneOn (f s).node)) s (put W.cells (part_node p (f s)) i (fill_word σ.fan (f s) p i)) W.count
   writes =

@@ -26,25 +26,12 @@ owed x = owed_in x.phase x.operation
 abbrev pub Mine : ℕ → Seat → ℕ → Type 0
 Mine fan x q = MineIn fan x.phase x q
 
--- the node of a seat that holds a latch, and what holds of the seat
-holding_hold : (σ : Setting) (W : World) (h : History) (s : ℕ) (ph : Phase) (x : Seat) (q : ℕ) → SeatIn σ W h s ph x → holding_in ph x.node ≡ Some q → (q ≡ x.node) × Hold σ W x
-holding_hold σ W h s phase.Take x q k e = (sym (same_Some x.node q e), k.1)
-holding_hold σ W h s (phase.Fill p i) x q k e = (sym (same_Some x.node q e), k.1)
-holding_hold σ W h s phase.Release x q k e = (sym (same_Some x.node q e), k.1)
-holding_hold σ W h s phase.Undo x q k e = (sym (same_Some x.node q e), k.1)
-holding_hold σ W h s ph x q k e = absurd (none-some q e)
-
+-- a seat that holds a latch holds it of a node whose lock word is odd, and may still rise
 pub holder_locks : (σ : Setting) (W : World) (h : History) (s : ℕ) (ph : Phase) (x : Seat) (q : ℕ) → SeatIn σ W h s ph x → holding_in ph x.node ≡ Some q → (lock W.cells q % 2 ≡ 1) × (lock W.cells q + 1 ≤ σ.top)
-holder_locks σ W h s ph x q k e =
-    let a = holding_hold σ W h s ph x q k e in
-    rw a.0 (omega (arith, a.1.mine, a.1.even), omega (arith, a.1.mine, a.1.low))
+holder_locks σ W h s ph x q k e = grind arith
 
 pub holder_mine : (fan : ℕ) (ph : Phase) (x : Seat) (q : ℕ) → holding_in ph x.node ≡ Some q → MineIn fan ph x q
-holder_mine fan phase.Take x q e = sym (same_Some x.node q e)
-holder_mine fan (phase.Fill p i) x q e = inl (sym (same_Some x.node q e))
-holder_mine fan phase.Release x q e = inl (sym (same_Some x.node q e))
-holder_mine fan phase.Undo x q e = sym (same_Some x.node q e)
-holder_mine fan ph x q e = absurd (none-some q e)
+holder_mine fan ph x q e = grind arith
 
 -- a call of seat `s`, which makes the event `e` and leaves the seat `x'`, leads from the world `W` to `W'` as it may
 pub record Good (σ : Setting) (W W' : World) (f : ℕ → Seat) (h : History) (e : Event) (s : ℕ) (x' : Seat) : Type 0 where
@@ -86,9 +73,7 @@ module _ {σ : Setting} {W W' : World} {f : ℕ → Seat} {h : History} {e : Eve
 
     -- what holds of `x'` with each other seat, and of the others, holds of any two
     pairs : (P : Seat → Seat → Type 0) → ((x y : Seat) → P x y → P y x) → ((t : ℕ) → t ≢ s → P x' (f t)) → ((a b : ℕ) → b ≢ a → P (f a) (f b)) → (a b : ℕ) → b ≢ a → P (f' a) (f' b)
-    pairs P turn mine rest =
-        each (λ a x. (b : ℕ) → b ≢ a → P x (f' b)) (λ b d. rw (other b d) (mine b d))
-        (λ a z. each (λ b y. b ≢ a → P (f a) y) (λ _. turn x' (f a) (mine a z)) (λ b _ d. rest a b d))
+    pairs P turn mine rest = grind arith
 
     pub next : Inv σ W' f' (e ∷ h)
     next =
@@ -123,8 +108,7 @@ pub with_abandon : (m₀ : ℕ → Option ℕ) (h : History) (e : Event) (s : �
 with_abandon m₀ h e s l a = (l.0, l.1, l.2, a)
 
 pub laws_unstepped : (m₀ : ℕ → Option ℕ) → (h : History) (e : Event) (s : ℕ) → stepped e s ≡ false → StepLaws m₀ h e s
-laws_unstepped m₀ h e s z =
-    (λ k _. fails _ (and_left (stepped e s) (ends (number e)) z), λ k v _. fails _ (and_left (stepped e s) (ends (number e)) z), fails _ (and_left (stepped e s) (tests (place h s) (node e)) z))
+laws_unstepped m₀ h e s z = grind arith
 
 pub laws_test : (m₀ : ℕ → Option ℕ) → (h : History) (e : Event) (s : ℕ) → ends (number e) ≡ false → TurningLaw h e s → StepLaws m₀ h e s
 laws_test m₀ h e s a b = (λ k _. fails _ (and_right (stepped e s) (ends (number e)) a), λ k v _. fails _ (and_right (stepped e s) (ends (number e)) a), b)
@@ -150,8 +134,7 @@ abbrev pub with_cells : World → List ℕ → ℕ → World
 with_cells W m c = record { cells = m; count = c; words = W.words; tree = W.tree }
 
 pub tells_same : (o : T.Order) (w w' : ℕ → Option ℕ) (k : ℕ) (p : T.Place) → w' k ≡ w k → T.Tells o w k p → T.Tells o w' k p
-tells_same o w w' k T.free e z = tt
-tells_same o w w' k (T.held y a b) e z = λ i j l. e ∙ z i j l
+tells_same o w w' k p e t = grind arith
 
 module _ {σ : Setting} {W : World} {f : ℕ → Seat} {h : History} (ι : Inv σ W f h) (e : Event) (s : ℕ) (x' : Seat) where
   pub good_write : (m' : List ℕ) (c' : ℕ) → Writing σ W f h e s m' c'
@@ -191,8 +174,7 @@ module _ {σ : Setting} {W : World} {f : ℕ → Seat} {h : History} (ι : Inv �
 
   -- the cells stay too
   pub writing_none : (c' : ℕ) → W.count ≤ c' → 32 * c' ≤ length W.cells → Writing σ W f h e s W.cells c'
-  writing_none c' a b =
-      record { len = refl; more = a; fits = b; up = λ q o. omega arith; rise = λ q o z d. absurd (d refl); same = ι.nodes.same; own = λ t d q i _ _. refl }
+  writing_none c' a b = grind arith
 
   pub latched_none : holding x' ≡ holding (f s) → (q : ℕ) → Open W q → lock W.cells q % 2 ≡ 1 → (holding x' ≡ Some q) ⊎ ((t : ℕ) × (t ≢ s) × (holding (f t) ≡ Some q))
   latched_none e q o l =

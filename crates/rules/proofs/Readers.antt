@@ -308,11 +308,7 @@ module _ {σ : Setting} {W : World} {f : ℕ → Seat} {h : History} (ι : Inv �
   no_find o k p b = let g = p.0.2 in cc
 
   end_laws : (o : Outcome) (n : ℕ) → Paid σ.start h s o → tests (place h s) n ≡ false → StepLaws σ.start h (answer_of (Step s) (Ended n o)) s
-  end_laws outcome.Stored n p z = (λ k b _. no_find outcome.Stored k p b, λ k v b _. inl (inl refl, p.1), untested h (answer_of (Step s) (Ended n outcome.Stored)) s z)
-  end_laws (outcome.Replaced w) n p z = (λ k b _. no_find (outcome.Replaced w) k p b, λ k v b _. inr (inl (refl, p.1)), untested h (answer_of (Step s) (Ended n (outcome.Replaced w))) s z)
-  end_laws outcome.Untold n p z = (λ k b _. no_find outcome.Untold k p b, λ k v b _. inl (inr refl, p.1), untested h (answer_of (Step s) (Ended n outcome.Untold)) s z)
-  end_laws outcome.Full n p z = (λ k b _. no_find outcome.Full k p b, λ k v b _. inr (inr (inl refl, p.1)), untested h (answer_of (Step s) (Ended n outcome.Full)) s z)
-  end_laws outcome.Worn n p z = (λ k b _. no_find outcome.Worn k p b, λ k v b _. inr (inr (inr refl, p.1)), untested h (answer_of (Step s) (Ended n outcome.Worn)) s z)
+  end_laws o n p z = grind arith
 
   pub end : (o : Outcome) → (f s).phase ≡ phase.End o → SeatIn σ W h s (phase.End o) (f s)
       → Stepped σ W f h s W.cells (in_phase (f s) phase.Idle) W.count (Ended (f s).node o)

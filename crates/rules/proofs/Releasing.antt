@@ -31,9 +31,7 @@ ours fan x q = eqb q x.node || (splits fan x.draft && (eqb q x.draft.right || (i
 
 module _ (fan : ℕ) (x : Seat) (q : ℕ) where
   decides : Decides (ours fan x q) (Ours fan x q)
-  decides =
-      Decides-or _ _ (Decides-eqb q x.node)
-      (Decides-and _ _ (λ e. e, λ e. e) (Decides-or _ _ (Decides-eqb q x.draft.right) (Decides-and _ _ (λ e. e, λ e. e) (Decides-eqb q x.draft.left))))
+  decides = grind arith
 
   decide : Ours fan x q ⊎ ¬ (Ours fan x q)
   decide = elim (cases_Bool (ours fan x q)) [ inl e ↦ inl (decides.0 e) | inr e ↦ inr (not_from_Decides (ours fan x q) decides e) ]
@@ -43,8 +41,7 @@ abbrev pub written : ℕ → World → Seat → ℕ → ℕ → ℕ
 written fan W x q i = cond (ours fan x q) (word W.cells q i) (W.words q i)
 
 coded_same : (σ : Setting) (W W' : World) (w u : ℕ → ℕ) (p : T.Place) → ((i : ℕ) → 0 < i → i < 32 → u i ≡ w i) → Coded σ W w p → Coded σ W' u p
-coded_same σ W W' w u T.free e z = tt
-coded_same σ W W' w u (T.held y a b) e z = (encodes_same w u y e z.0, z.1)
+coded_same σ W W' w u p e z = grind arith
 
 -- an update of the tree that touches only those nodes, whose words encode it
 pub record Update (σ : Setting) (W : World) (x : Seat) (tree : ℕ → T.Place) (settled : Option ℕ) (told : ℕ → Option ℕ) : Type 0 where

@@ -47,12 +47,10 @@ pub quiet_turned : (n : ℕ) → Quiet (TurnedBack n)
 quiet_turned n = record { told_of = refl; two = refl; three = refl; five = refl }
 
 pub quiet_answered : (n : ℕ) (o : Option ℕ) → Quiet (answered n o)
-quiet_answered n None = record { told_of = refl; two = refl; three = refl; five = refl }
-quiet_answered n o = record { told_of = refl; two = refl; three = refl; five = refl }
+quiet_answered n o = grind arith
 
 pub quiet_ended : (n : ℕ) (o : Outcome) → Quiet (Ended n o)
-quiet_ended n outcome.Stored = record { told_of = refl; two = refl; three = refl; five = refl }
-quiet_ended n o = record { told_of = refl; two = refl; three = refl; five = refl }
+quiet_ended n o = grind arith
 
 module _ (h : History) (s : ℕ) (r : Report) where
   pub holds_other : (t : ℕ) → t ≢ s → holds (answer_of (Step s) r ∷ h) t ≡ holds h t
@@ -60,11 +58,7 @@ module _ (h : History) (s : ℕ) (r : Report) where
 
   module _ (u : Quiet r) where
     pub holds_quiet : (t : ℕ) → holds (answer_of (Step s) r ∷ h) t ≡ holds h t
-    holds_quiet t =
-        elim (cases_eq t s) [
-          | inl z ↦ rw z (holds_own h s r u.told_of ∙ cond-false (eqb (told r).0 2) _ _ u.two ∙ cond-false (leb 3 (told r).0 && leb (told r).0 5) _ _ u.five)
-          | inr d ↦ holds_other t d
-        ]
+    holds_quiet t = grind arith
 
     pub plain_quiet : (m₀ : ℕ → Option ℕ) → (k : ℕ) → plain_map m₀ (answer_of (Step s) r ∷ h) k ≡ plain_map m₀ h k
     plain_quiet m₀ k = cond-false (eqb (told r).0 3) _ _ u.three
@@ -119,8 +113,7 @@ module _ {σ : Setting} {W : World} {f : ℕ → Seat} {h : History} (ι : Inv �
   stepped_calm x' r u a m d k l = stepped_as (good_calm ι (answer_of (Step s) r) s x' a m d (plain_quiet h s r u σ.start) k (holds_quiet h s r u s) (λ _. l))
 
   opened : (p : T.Place) → Linked p → (y : N.Node) × (a : ℕ) × (b : ℕ) × (p ≡ T.held y a b)
-  opened T.free z = absurd z
-  opened (T.held y a b) z = (y, a, b, refl)
+  opened p z = grind arith
 
   pub seen : (x : Seat) → Open W x.node → length x.copy ≡ 32 → ((j : ℕ) → 0 < j → j < 32 → get_or x.copy j 0 ≡ W.words x.node j) → Seen σ W x
   seen x o l same =

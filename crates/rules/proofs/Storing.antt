@@ -30,8 +30,7 @@ use Rattle.rules.proofs.Steps.{Stepped, leaf_found}
 use Rattle.rules.proofs.Deeds.{after_release, shown, Deed, releases_by}
 
 paid_stored : (o : Option ℕ) → paid (stored o) ≡ o ∷ []
-paid_stored None = refl
-paid_stored (Some v) = refl
+paid_stored o = grind arith
 
 module _ {σ : Setting} {W : World} {f : ℕ → Seat} {h : History} (ι : Inv σ W f h) (s : ℕ) (b8 : s < 8) (e : (f s).phase ≡ phase.Release) (k : SeatIn σ W h s phase.Release (f s)) where
   covers_y : N.covers σ.order.before (shown ι s b8 e k).node_is (f s).key ≡ true
@@ -97,7 +96,7 @@ module _ {σ : Setting} {W : World} {f : ℕ → Seat} {h : History} (ι : Inv �
         }
 
     outcome_p : (f s).draft.outcome ≡ stored (found σ.order.before (f s).key (entries (f s).copy))
-    outcome_p = k.1.planned.outcome_is ∙ ap (λ (t : Operation). finished σ.order.before t (f s).key (entries (f s).copy)) op
+    outcome_p = grind arith
 
     ended_p : Paid σ.start (answer_of (Step s) (Published (f s).node) ∷ h) s (f s).draft.outcome
     ended_p = (

@@ -25,11 +25,7 @@ use Rattle.rules.proofs.Readers.{stopped_paid}
 
 -- nobody writes a linked node with no latch
 pub nobody : (σ : Setting) (W : World) (h : History) (t : ℕ) (ph : Phase) (y : Seat) (q : ℕ) → SeatIn σ W h t ph y → MineIn σ.fan ph y q → Open W q → lock W.cells q % 2 ≡ 0 → ⊥
-nobody σ W h t phase.Take y q k m o l = omega (arith, k.1.mine, k.1.even, ap (lock W.cells) m)
-nobody σ W h t (phase.Fill p i) y q k m o l = ⊎_elim (λ (z : q ≡ y.node). omega (arith, k.1.mine, k.1.even, ap (lock W.cells) z)) (λ z. k.3.hidden q z o) m
-nobody σ W h t phase.Release y q k m o l = ⊎_elim (λ (z : q ≡ y.node). omega (arith, k.1.mine, k.1.even, ap (lock W.cells) z)) (λ z. k.3.hidden q z o) m
-nobody σ W h t phase.Undo y q k m o l = omega (arith, k.1.mine, k.1.even, ap (lock W.cells) m)
-nobody σ W h t ph y q k m o l = m
+nobody σ W h t ph y q k m o l = grind arith
 
 -- a seat's nodes are in use
 pub mine_below : (σ : Setting) (W : World) (h : History) (t : ℕ) (ph : Phase) (y : Seat) (q : ℕ) → ((p : ℕ) → Open W p → p < W.count) → SeatIn σ W h t ph y → MineIn σ.fan ph y q → q < W.count
@@ -173,9 +169,7 @@ module _ {σ : Setting} {W : World} {f : ℕ → Seat} {h : History} (ι : Inv �
       where
         nothing_yet : splits σ.fan (draft_of σ.order.before σ.fan (f s)) ≡ false
             → Filled σ.fan (put W.cells (f s).node 0 (version (f s) + 1)) (with_draft (f s) (draft_of σ.order.before σ.fan (f s)) (phase.Fill Own 1)) (done_in Own 1)
-        nothing_yet z Left u w a b = both (splits σ.fan (draft_of σ.order.before σ.fan (f s))) u.0 z
-        nothing_yet z Right u w a b = both (splits σ.fan (draft_of σ.order.before σ.fan (f s))) u z
-        nothing_yet z Own u w a b = absurd (omega arith)
+        nothing_yet z p u w a b = grind arith
 
   -- nodes are taken, or there are none
   module _ (e : (f s).phase ≡ phase.Take) (k : SeatIn σ W h s phase.Take (f s)) where
@@ -203,40 +197,28 @@ module _ {σ : Setting} {W : World} {f : ℕ → Seat} {h : History} (ι : Inv �
 
     -- taking nodes leaves the entries as drafted
     planned_t : Planned σ (with_nodes (f s) W.count) (f s).operation (f s).key (f s).copy
-    planned_t =
-        let a = k.1.planned in
-        record { frees = a.frees; rows_are = a.rows_are; len_is = a.len_is; left_is = a.left_is; edge_is = a.edge_is; outcome_is = a.outcome_is }
+    planned_t = grind arith
 
     hold_t : (ph : Phase) → Hold σ (with_cells W W.cells (W.count + needed (f s))) (with_draft (f s) (with_nodes (f s) W.count) ph)
     hold_t ph = hold_as (f s) (with_nodes (f s) W.count) ph refl (λ _. refl) planned_t k.1
 
     right_in : (b : Bool) (c : ℕ) → (c ≤ cond b (c + 1) c) × (cond b (c + 1) c < c + cond b 2 1)
-    right_in true c = (omega arith, omega arith)
-    right_in false c = (omega arith, omega arith)
+    right_in b c = grind arith
 
     left_in : (b : Bool) (c n : ℕ) → b ≡ true → (cond b c n ≡ c) × (c < c + cond b 2 1) × (cond b c n ≢ cond b (c + 1) c)
-    left_in true c n e = (refl, omega arith, λ z. omega arith)
-    left_in false c n e = both false e refl
+    left_in b c n e = grind arith
 
     fresh_in : (ph : Phase) (q : ℕ) → Fresh σ.fan (with_draft (f s) (with_nodes (f s) W.count) ph) q → (W.count ≤ q) × (q < W.count + needed (f s))
     fresh_in ph q z = grind arith
 
     taken_t : (ph : Phase) → Taken σ (with_cells W W.cells (W.count + needed (f s))) (with_draft (f s) (with_nodes (f s) W.count) ph)
-    taken_t ph =
-        record {
-          inside = λ q z. (fresh_in ph q z).1;
-          hidden = λ q z o. omega (arith, (fresh_in ph q z).0, ι.nodes.below q o);
-          two = λ u. (left_in (is_root (f s)) W.count (f s).node u.1).2;
-          level_is = rw (k.4, k.5) refl;
-        }
+    taken_t ph = grind arith
 
     filled_left : Filled σ.fan W.cells (with_draft (f s) (with_nodes (f s) W.count) (phase.Fill Left 0)) (done_in Left 0)
-    filled_left Left u w a b = absurd (omega arith)
-    filled_left p u w a b = absurd (omega arith)
+    filled_left p u w a b = grind arith
 
     filled_right : is_root (f s) ≡ false → Filled σ.fan W.cells (with_draft (f s) (with_nodes (f s) W.count) (phase.Fill Right 0)) (done_in Right 0)
-    filled_right z Left u w a b = both (is_root (f s)) u.1 z
-    filled_right z p u w a b = absurd (omega arith)
+    filled_right z p u w a b = grind arith
 
     took : 32 * (W.count + needed (f s)) ≤ length W.cells → (p : Part) → first p ≤ 0 → Uses σ.fan (with_draft (f s) (with_nodes (f s) W.count) (phase.Fill p 0)) p
         → Filled σ.fan W.cells (with_draft (f s) (with_nodes (f s) W.count) (phase.Fill p 0)) (done_in p 0)
