@@ -17,9 +17,6 @@ abbrev pub PublishedAs : (ℕ → Option ℕ) → History → ℕ → Bool → T
 PublishedAs m₀ h s true = publishings m₀ h s ≢ []
 PublishedAs m₀ h s false = publishings m₀ h s ≡ []
 
-once : (l : List (Option ℕ)) (o : Option ℕ) → l ≡ o ∷ [] → l ≢ []
-once l o e z = cc
-
 -- before its release a put is not published, and a posting comes after one
 pub begun_published : (m₀ : ℕ → Option ℕ) (h : History) (s : ℕ) (t : Operation) (k : ℕ) → Begins m₀ h s t k → PublishedAs m₀ h s (is_post t)
 begun_published m₀ h s t k b = grind arith

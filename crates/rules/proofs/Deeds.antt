@@ -39,15 +39,6 @@ abbrev pub after_release : ℕ → Seat → Seat
 after_release fan x = cond (splits fan x.draft) (cond (is_root x) (in_phase x (phase.End x.draft.outcome)) (posts_on x)) (in_phase x (phase.End x.draft.outcome))
 
 -- a node that a seat posts is linked
-is_linked : (v lo : ℕ) (p : T.Place) → T.Is v lo p → Linked p
-is_linked v lo p z = grind arith
-
-aims_open : (σ : Setting) (W : World) (post : Option ℕ) (k aim d : ℕ) → post ≡ Some d → T.Aims σ.order W.tree post k aim → Open W d
-aims_open σ W post k aim d e z = grind arith
-
-doing_owed : {σ : Setting} {W : World} {h : History} {s : ℕ} {x : Seat} (d : ℕ) → Doing σ W h s x → post_of x.operation ≡ Some d → Open W d
-doing_owed {σ} {W} {x} d k e = aims_open σ W (post_of x.operation) x.key x.aim d e k.seated.aims
-
 pub owed_open : (σ : Setting) (W : World) (h : History) (s : ℕ) (ph : Phase) (x : Seat) (d : ℕ) → SeatIn σ W h s ph x → owed_in ph x.operation ≡ Some d → Open W d
 owed_open σ W h s ph x d k e = grind arith
 

@@ -53,9 +53,6 @@ pub quiet_ended : (n : ℕ) (o : Outcome) → Quiet (Ended n o)
 quiet_ended n o = grind arith
 
 module _ (h : History) (s : ℕ) (r : Report) where
-  pub holds_other : (t : ℕ) → t ≢ s → holds (answer_of (Step s) r ∷ h) t ≡ holds h t
-  holds_other t d = (untouched_other (λ _. None) (answer_of (Step s) r) h t d).holds_same
-
   module _ (u : Quiet r) where
     pub holds_quiet : (t : ℕ) → holds (answer_of (Step s) r ∷ h) t ≡ holds h t
     holds_quiet t = grind arith

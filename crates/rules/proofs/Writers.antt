@@ -202,12 +202,6 @@ module _ {σ : Setting} {W : World} {f : ℕ → Seat} {h : History} (ι : Inv �
     hold_t : (ph : Phase) → Hold σ (with_cells W W.cells (W.count + needed (f s))) (with_draft (f s) (with_nodes (f s) W.count) ph)
     hold_t ph = hold_as (f s) (with_nodes (f s) W.count) ph refl (λ _. refl) planned_t k.1
 
-    right_in : (b : Bool) (c : ℕ) → (c ≤ cond b (c + 1) c) × (cond b (c + 1) c < c + cond b 2 1)
-    right_in b c = grind arith
-
-    left_in : (b : Bool) (c n : ℕ) → b ≡ true → (cond b c n ≡ c) × (c < c + cond b 2 1) × (cond b c n ≢ cond b (c + 1) c)
-    left_in b c n e = grind arith
-
     fresh_in : (ph : Phase) (q : ℕ) → Fresh σ.fan (with_draft (f s) (with_nodes (f s) W.count) ph) q → (W.count ≤ q) × (q < W.count + needed (f s))
     fresh_in ph q z = grind arith
 
