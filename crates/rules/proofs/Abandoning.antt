@@ -1,15 +1,12 @@
 -- What an abandon reports is right: in each phase that may be abandoned it is known whether the operation was published.
-use Rattle.std.proofs.Common.{◌≡◌, ℕ, Bool, true, false, ◌≢◌, List, [], ◌∷◌, Option, refl, inl, inr, arith}
-use Rattle.std.proofs.lemmas.Bool.{cases_eq, ne_eqb}
+use Rattle.std.proofs.Common.{◌≡◌, ℕ, Bool, true, false, ◌≢◌, [], Option, arith}
 use Rattle.rules.specs.Calls.{is_post, is_written}
 use Rattle.rules.specs.Histories.{History, Abandon}
 use Rattle.rules.specs.PlainMap.{publishings}
 use Rattle.rules.specs.Laws.{AbandonLaw}
 use Rattle.rules.specs.declared.report.Outcome.{Outcome}
-use Rattle.rules.specs.declared.report.Outcome.TheVariants as outcome
 use Rattle.rules.specs.declared.report.Report.TheVariants.{Abandoned}
 use Rattle.rules.specs.declared.seat.Operation.{Operation}
-use Rattle.rules.specs.declared.seat.Operation.TheVariants as operation
 use Rattle.rules.proofs.Events.{answer_of}
 use Rattle.rules.proofs.Inv.{Begins, Paid}
 

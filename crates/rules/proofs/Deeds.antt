@@ -1,5 +1,5 @@
 -- A deed is what an operation does to the tree at its release. Each has three shapes: in place, a split, and a split of the root.
-use Rattle.std.proofs.Common.{◌≡◌, ℕ, zero, suc, ◌+◌, ◌-◌, ◌^◌, ◌<◌, ◌≤◌, true, false, cond, ltb, ◌≢◌, List, [], ◌∷◌, length, take, drop, Some, None, Option, sym, refl, ap, ◌∙◌, inl, inr, arith, length-drop, length-take}
+use Rattle.std.proofs.Common.{◌≡◌, ℕ, suc, ◌+◌, ◌-◌, ◌^◌, ◌<◌, ◌≤◌, true, false, cond, ltb, ◌≢◌, List, [], ◌∷◌, length, take, drop, Some, None, Option, sym, refl, ap, ◌∙◌, inl, inr, arith, length-drop, length-take}
 use Rattle.std.proofs.lemmas.Bool.{cond_both, cond-true, cond-false, eqb-true, eqb-false, ltb-true, ltb-false}
 use Rattle.std.proofs.lemmas.Option.{none-some}
 use Rattle.std.proofs.lemmas.List.{length-map, take-map, drop-map}
@@ -28,7 +28,7 @@ use Rattle.rules.proofs.Cells.{word, put}
 use Rattle.rules.proofs.Entries.{as_entry, row, last_is}
 use Rattle.rules.proofs.Words.{encodes_same, encodes_as}
 use Rattle.rules.proofs.Events.{answer_of}
-use Rattle.rules.proofs.Inv.{Setting, World, Linked, Open, post_of, owed_in, Uses, first, Paid, Doing, SeatIn, Coded, Inv}
+use Rattle.rules.proofs.Inv.{Setting, World, Linked, Open, owed_in, Uses, first, Paid, SeatIn, Coded, Inv}
 use Rattle.rules.proofs.Rely.{doing_open}
 use Rattle.rules.proofs.Good.{owed, StepLaws}
 use Rattle.rules.proofs.Steps.{Stepped, Seen, seen}

@@ -1,14 +1,13 @@
 -- One event more: what holds of the latches, the places in reading, the begins and the publishings of each seat after it.
-use Rattle.std.proofs.Common.{◌≡◌, ℕ, zero, suc, ◌≤◌, Bool, true, false, cond, ◌&&◌, eqb, ltb, leb, ◌≢◌, ◌⊎◌, [], ◌∷◌, drop, Some, None, Ok, Err, Option, refl, ◌∙◌, inl, inr, arith}
+use Rattle.std.proofs.Common.{◌≡◌, ℕ, zero, suc, ◌≤◌, true, false, cond, ◌&&◌, eqb, ltb, leb, ◌≢◌, ◌⊎◌, [], ◌∷◌, Some, None, Ok, Err, Option, refl, ◌∙◌, inl, inr, arith}
 use Rattle.std.proofs.lemmas.Bool.{eq-eqb, ne_eqb, cond_both, cond-true, cond-false, and_right, and_left, le-ltb}
 use Rattle.rules.specs.declared.refusal.Refusal.{Refusal}
-use Rattle.rules.specs.declared.refusal.Refusal.TheVariants as refusal
 use Rattle.rules.specs.declared.report.Report.{Report}
 use Rattle.rules.specs.declared.report.Report.TheVariants.{GoneOn}
 use Rattle.rules.specs.Refusals.{refusal_number}
 use Rattle.rules.specs.Reports.{told}
-use Rattle.rules.specs.Histories.{Call, Format, BeginFind, BeginPut, Step, Abandon, Event, History}
-use Rattle.rules.specs.Events.{number, node, accepted, steps, stepped, Begun, finding, putting, begins, begun, seat_of, publishes, sought, restarts}
+use Rattle.rules.specs.Histories.{Call, BeginFind, BeginPut, Step, Event, History}
+use Rattle.rules.specs.Events.{accepted, steps, stepped, Begun, finding, putting, begins, begun, seat_of, publishes, sought, restarts}
 use Rattle.rules.specs.PlainMap.{plain_map, publishings}
 use Rattle.rules.specs.Latches.{holds, starting, looks, place_after, place, since_look, Disturbed}
 

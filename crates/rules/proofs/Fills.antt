@@ -1,5 +1,5 @@
 -- A fill: one word of a node that the seat alone may write.
-use Rattle.std.proofs.Common.{◌≡◌, ℕ, ◌+◌, ◌%◌, ◌<◌, ◌≤◌, ltb, ◌≢◌, ◌⊎◌, List, ◌∷◌, Some, sym, refl, ap, ◌∙◌, inl, inr, ⊎_elim, arith}
+use Rattle.std.proofs.Common.{◌≡◌, ℕ, ◌+◌, ◌%◌, ◌<◌, ◌≤◌, ltb, ◌≢◌, ◌⊎◌, List, ◌∷◌, Some, sym, refl, ◌∙◌, inl, inr, arith}
 use Rattle.std.proofs.lemmas.Bool.{cases_eq, cond_both, ltb-true, ltb-false}
 use Rattle.rules.specs.Seats.{in_phase}
 use Rattle.rules.specs.Steps.{part_node, part_next, fill_next, fill_word}
@@ -119,14 +119,14 @@ module _ {σ : Setting} {W : World} {f : ℕ → Seat} {h : History} (ι : Inv �
       let ev = answer_of (Step s) r in
       let own : holding x ≡ Some x.node = rw e refl in
       stepped_as (good_write ι ev s (in_phase x ph) (put W.cells (part_node p x) i (fill_word σ.fan x p i)) W.count (writes ι s b8 p i e k)
-            (λ q o l.
-            let t = ι.nodes.latched q o (rw (open_lock ι s b8 p i e k q o) at l) in
-            elim (cases_eq t.0 s) [ inl y ↦ inl (hp ∙ sym own ∙ rw y at t.1) | inr d ↦ inr (t.0, d, t.1) ])
-            (plain_quiet h s r (quiet_gone x.node) σ.start) z (holds_quiet h s r (quiet_gone x.node) s ∙ ι.held_by s ∙ own ∙ sym hp)
-            (λ t d q y. ι.apart s t d q (mp q y))
-            (λ t d q y. ι.owes s t d q (sym op ∙ y))
-            (λ _. ι.sizes s b8))
-        (laws_plain σ.start h ev s refl (rw k.2 refl))
+      (λ q o l.
+      let t = ι.nodes.latched q o (rw (open_lock ι s b8 p i e k q o) at l) in
+      elim (cases_eq t.0 s) [ inl y ↦ inl (hp ∙ sym own ∙ rw y at t.1) | inr d ↦ inr (t.0, d, t.1) ])
+      (plain_quiet h s r (quiet_gone x.node) σ.start) z (holds_quiet h s r (quiet_gone x.node) s ∙ ι.held_by s ∙ own ∙ sym hp)
+      (λ t d q y. ι.apart s t d q (mp q y))
+      (λ t d q y. ι.owes s t d q (sym op ∙ y))
+      (λ _. ι.sizes s b8))
+      (laws_plain σ.start h ev s refl (rw k.2 refl))
 
   owes_f : post_of (f s).operation ≡ owed (f s)
   owes_f = rw e refl

@@ -1,20 +1,18 @@
 -- One call of one seat: what is to be shown of it, and that this gives the invariant after the call. The laws of a call that is no test.
-use Rattle.std.proofs.Common.{◌≡◌, ℕ, ◌+◌, ◌*◌, ◌%◌, ◌<◌, ◌≤◌, Bool, true, false, ◌&&◌, T, ◌≢◌, ◌⊎◌, ◌↔◌, List, ◌∷◌, length, Some, Option, sym, refl, ◌∙◌, inl, inr, arith}
-use Rattle.std.proofs.lemmas.Bool.{cases_eq, and_left, and_right}
-use Rattle.std.proofs.lemmas.Option.{none-some, same_Some}
+use Rattle.std.proofs.Common.{◌≡◌, ℕ, ◌+◌, ◌*◌, ◌%◌, ◌<◌, ◌≤◌, false, ◌≢◌, ◌⊎◌, List, ◌∷◌, length, Some, Option, sym, refl, ◌∙◌, inl, inr, arith}
+use Rattle.std.proofs.lemmas.Bool.{cases_eq, and_right}
 use Rattle.tree.specs.Tree as T
 use Rattle.rules.specs.Histories.{Event, History}
 use Rattle.rules.specs.Events.{number, node, ends, stepped, seat_of}
 use Rattle.rules.specs.PlainMap.{plain_map}
-use Rattle.rules.specs.Latches.{holds, place, tests, Disturbed}
+use Rattle.rules.specs.Latches.{holds, place, tests}
 use Rattle.rules.specs.Laws.{FindLaw, PutLaw, TurningLaw, AbandonLaw}
 use Rattle.rules.specs.declared.seat.Phase.{Phase}
-use Rattle.rules.specs.declared.seat.Phase.TheVariants as phase
 use Rattle.rules.specs.declared.seat.Seat.{Seat}
 use Rattle.rules.proofs.Basics.{fails}
 use Rattle.rules.proofs.Cells.{word, lock}
 use Rattle.rules.proofs.Events.{Untouched, untouched_other}
-use Rattle.rules.proofs.Inv.{Setting, World, Open, holding_in, owed_in, MineIn, Hold, SeatIn, Coded, Inv}
+use Rattle.rules.proofs.Inv.{Setting, World, Open, holding_in, owed_in, MineIn, SeatIn, Coded, Inv}
 use Rattle.rules.proofs.Rely.{Rely, lasts}
 
 abbrev pub holding : Seat → Option ℕ

@@ -1,5 +1,5 @@
 -- The steps of a seat that holds no latch: look, copy, check, a latch step that is lost or worn, and the end.
-use Rattle.std.proofs.Common.{◌≡◌, ℕ, zero, suc, ◌+◌, ◌%◌, ◌<◌, ◌≤◌, Bool, true, false, cond, ◌&&◌, T, eqb, ltb, ◌≢◌, [], ◌∷◌, get_or, Some, None, Option, sym, refl, ap, ◌∙◌, inl, inr, ⊎_elim, arith}
+use Rattle.std.proofs.Common.{◌≡◌, ℕ, zero, suc, ◌+◌, ◌%◌, ◌<◌, ◌≤◌, true, false, cond, eqb, ltb, ◌≢◌, [], ◌∷◌, get_or, Some, None, Option, sym, refl, ap, ◌∙◌, inl, inr, ⊎_elim, arith}
 use Rattle.std.proofs.lemmas.List.{get_or-set_same, get_or-set_other, length-set}
 use Rattle.std.proofs.lemmas.Bool.{cases_eq, cond_both, cond-true, eq-eqb, ne_eqb, eqb-true, eqb-false, ltb-true, ltb-false, lt-ltb}
 use Rattle.std.proofs.lemmas.Option.{none-some}
@@ -11,7 +11,7 @@ use Rattle.rules.specs.Nodes.{level, link, entries, covers, child, found}
 use Rattle.rules.specs.Seats.{in_phase, at_node, with_word}
 use Rattle.rules.specs.Steps.{version_in, version, answered, copy_next, accepts, arrives, stopped}
 use Rattle.rules.specs.Histories.{History, Step}
-use Rattle.rules.specs.Events.{begun, finding, stepped}
+use Rattle.rules.specs.Events.{begun, finding}
 use Rattle.rules.specs.PlainMap.{plain_map}
 use Rattle.rules.specs.Latches.{holds, place, elsewhere, starting, reading, checked, looks, tests, since_look, Disturbed}
 use Rattle.rules.specs.declared.seat.Operation.{Operation}
@@ -27,9 +27,9 @@ use Rattle.rules.proofs.Cells.{word, lock}
 use Rattle.rules.proofs.Entries.{row_child}
 use Rattle.rules.proofs.Words.{covers_shown}
 use Rattle.rules.proofs.Events.{answer_of, not_me, place_own, since_own, disturbed_looked, disturbed_before}
-use Rattle.rules.proofs.Inv.{Setting, World, Open, holding_in, post_of, owed_in, Begins, Writes, paid, Paid, Doing, Reading, Hold, SeatIn, Inv}
+use Rattle.rules.proofs.Inv.{Setting, World, Open, holding_in, post_of, owed_in, Begins, Writes, paid, Paid, Doing, Reading, SeatIn, Inv}
 use Rattle.rules.proofs.Rely.{doing_open}
-use Rattle.rules.proofs.Good.{holding, owed, StepLaws, holder_locks, laws_plain, laws_test, untested}
+use Rattle.rules.proofs.Good.{holding, owed, StepLaws, holder_locks, laws_plain, laws_test}
 use Rattle.rules.proofs.Steps.{Stepped, quiet_gone, quiet_turned, quiet_answered, quiet_ended, holds_quiet, reading_in, Seen, odd_now, doing_quiet, doing_in, reading_own, stepped_calm, seen, leaf_found}
 
 module _ {σ : Setting} {W : World} {f : ℕ → Seat} {h : History} (ι : Inv σ W f h) (s : ℕ) (b8 : s < 8) where

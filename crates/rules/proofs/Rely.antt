@@ -9,11 +9,9 @@ use Rattle.rules.specs.Events.{begun}
 use Rattle.rules.specs.PlainMap.{publishings}
 use Rattle.rules.specs.Latches.{holds}
 use Rattle.rules.specs.declared.seat.Part.{Part}
-use Rattle.rules.specs.declared.seat.Part.TheVariants.{Left, Right, Own}
 use Rattle.rules.specs.declared.seat.Phase.{Phase}
 use Rattle.rules.specs.declared.seat.Phase.TheVariants as phase
 use Rattle.rules.specs.declared.seat.Operation.{Operation}
-use Rattle.rules.specs.declared.seat.Operation.TheVariants as operation
 use Rattle.rules.specs.declared.seat.Draft.{Draft}
 use Rattle.rules.specs.declared.seat.Seat.{Seat}
 use Rattle.rules.proofs.Cells.{word, lock}

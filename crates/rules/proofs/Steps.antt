@@ -1,6 +1,6 @@
 -- A step of a seat: what is to be shown of it, and what is common to steps that neither latch nor free.
-use Rattle.std.proofs.Common.{◌≡◌, ℕ, suc, ◌%◌, ◌<◌, ◌≤◌, true, false, ◌&&◌, eqb, ltb, leb, ◌≢◌, List, ◌∷◌, length, get_or, Some, None, Option, sym, refl, ◌∙◌, inl, inr, ⊎_elim, arith}
-use Rattle.std.proofs.lemmas.Bool.{cases_eq, cond-false}
+use Rattle.std.proofs.Common.{◌≡◌, ℕ, suc, ◌%◌, ◌<◌, ◌≤◌, true, false, ◌&&◌, eqb, ltb, leb, List, ◌∷◌, length, get_or, Some, Option, sym, refl, ◌∙◌, ⊎_elim, arith}
+use Rattle.std.proofs.lemmas.Bool.{cond-false}
 use Rattle.tree.specs.Node as N
 use Rattle.tree.specs.Tree as T
 use Rattle.tree.proofs.Stands.{tree_stands}
@@ -13,7 +13,6 @@ use Rattle.rules.specs.Histories.{History, Step}
 use Rattle.rules.specs.PlainMap.{publishings, plain_map}
 use Rattle.rules.specs.Latches.{holds, place, looks, since_look}
 use Rattle.rules.specs.declared.report.Outcome.{Outcome}
-use Rattle.rules.specs.declared.report.Outcome.TheVariants as outcome
 use Rattle.rules.specs.declared.seat.Phase.{Phase}
 use Rattle.rules.specs.declared.report.Report.{Report}
 use Rattle.rules.specs.declared.report.Report.TheVariants.{GoneOn, TurnedBack, Ended}
@@ -21,8 +20,8 @@ use Rattle.rules.specs.declared.seat.Seat.{Seat}
 use Rattle.rules.proofs.Cells.{lock}
 use Rattle.rules.proofs.Entries.{row, found_is}
 use Rattle.rules.proofs.Words.{encodes_same, Shows, covers_shown, shows}
-use Rattle.rules.proofs.Events.{untouched_other, answer_of, holds_own, since_own, begun_own, publishings_own, disturbed_later, disturbed_cases}
-use Rattle.rules.proofs.Inv.{Setting, World, Linked, Open, Begins, Doing, Reading, Hold, SeatIn, Coded, Inv}
+use Rattle.rules.proofs.Events.{answer_of, since_own, begun_own, publishings_own, disturbed_later, disturbed_cases}
+use Rattle.rules.proofs.Inv.{Setting, World, Linked, Open, Begins, Doing, Reading, SeatIn, Coded, Inv}
 use Rattle.rules.proofs.Rely.{begins_same}
 use Rattle.rules.proofs.Good.{holding, owed, Mine, Good, StepLaws, with_cells, good_calm, holder_locks}
 

@@ -7,10 +7,8 @@ use Rattle.tree.specs.Node as N
 use Rattle.tree.specs.Tree as T
 use Rattle.tree.specs.Updates as U
 use Rattle.tree.proofs.Stands.{tree_stands}
-use Rattle.tree.proofs.Walks.{good_at}
 use Rattle.rules.specs.Nodes.{level, entries, found, put_in, post_in}
-use Rattle.rules.specs.Seats.{in_phase}
-use Rattle.rules.specs.Steps.{is_root, splits, content, content_by, finished, stored, posts_on}
+use Rattle.rules.specs.Steps.{splits, content, content_by, finished, stored}
 use Rattle.rules.specs.Histories.{History, Step}
 use Rattle.rules.specs.Events.{Begun, begun, putting, sought}
 use Rattle.rules.specs.PlainMap.{with_pair, publishings, plain_map}

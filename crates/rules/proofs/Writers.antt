@@ -1,5 +1,5 @@
 -- The steps of a seat with a latch that leave the content of the tree: the latch that is won, take and undo.
-use Rattle.std.proofs.Common.{◌≡◌, ℕ, ◌+◌, ◌*◌, ◌%◌, ◌<◌, ◌≤◌, Bool, true, false, cond, ◌≢◌, ◌⊎◌, List, ◌∷◌, length, drop, Some, None, sym, refl, ap, ◌∙◌, inl, inr, ⊎_elim, arith}
+use Rattle.std.proofs.Common.{◌≡◌, ℕ, ◌+◌, ◌*◌, ◌%◌, ◌<◌, ◌≤◌, false, cond, ◌≢◌, ◌⊎◌, List, ◌∷◌, length, drop, Some, None, sym, refl, ap, ◌∙◌, inl, inr, ⊎_elim, arith}
 use lib.Seq.{take-append_seam}
 use Rattle.std.proofs.lemmas.Bool.{cases_eq, cond_both, eq-eqb}
 use Rattle.std.proofs.lemmas.Option.{none-some, same_Some}
@@ -19,7 +19,7 @@ use Rattle.rules.proofs.Cells.{word, put, lock, word_put, word_put_word, word_pu
 use Rattle.rules.proofs.Events.{answer_of, holds_own, place_own, begun_own, publishings_own}
 use Rattle.rules.proofs.Inv.{Setting, World, Open, post_of, Fresh, MineIn, Uses, first, done_in, Filled, Begins, Planned, Hold, Taken, SeatIn, Inv}
 use Rattle.rules.proofs.Rely.{begins_same, doing_open, hold_as}
-use Rattle.rules.proofs.Good.{holding, owed, Mine, StepLaws, laws_plain, laws_test, Writing, with_cells, good_write, writing_none, latched_none, good_calm}
+use Rattle.rules.proofs.Good.{holding, owed, Mine, StepLaws, laws_plain, laws_test, Writing, with_cells, good_write, writing_none, latched_none}
 use Rattle.rules.proofs.Steps.{Stepped, stepped_as, stepped_calm, quiet_gone, holds_quiet, plain_quiet, doing_in, doing_quiet}
 use Rattle.rules.proofs.Readers.{stopped_paid}
 
@@ -134,38 +134,38 @@ module _ {σ : Setting} {W : World} {f : ℕ → Seat} {h : History} (ι : Inv �
         let owing : (q : ℕ) → post_of x.operation ≡ Some q → owed x ≡ Some q = λ q z. rw e z in
         cond_both (splits σ.fan d) phase.Take (phase.Fill Own 1) (λ ph. Stepped σ W f h s m' (with_draft x d ph) W.count r)
         (λ z. stepped_as (good_write ι (answer_of (Step s) r) s (with_draft x d phase.Take) m' W.count latching latched_l (λ _. refl) (
-            record { seated = k.0.seated; begins = seated_b },
-            hold_l phase.Take,
-            now_l,
-            (λ j a b. lk.rest n j a b ∙ ι.nodes.same n (doing_open k.0) even_n j a b),
-            z,
-            refl,
-          )
-              held_l
-              (λ t b q y m. not_mine t q m y)
-              (λ t b q y. ι.owes s t b q (owing q y))
-              (λ _. ι.sizes s b8))
-          laws_l)
+          record { seated = k.0.seated; begins = seated_b },
+          hold_l phase.Take,
+          now_l,
+          (λ j a b. lk.rest n j a b ∙ ι.nodes.same n (doing_open k.0) even_n j a b),
+          z,
+          refl,
+        )
+        held_l
+        (λ t b q y m. not_mine t q m y)
+        (λ t b q y. ι.owes s t b q (owing q y))
+        (λ _. ι.sizes s b8))
+        laws_l)
         (λ z. stepped_as (good_write ι (answer_of (Step s) r) s (with_draft x d (phase.Fill Own 1)) m' W.count latching latched_l (λ _. refl) (
-            record { seated = k.0.seated; begins = seated_b },
-            hold_l (phase.Fill Own 1),
-            now_l,
-            record {
-              inside = λ q y. both (splits σ.fan d) y.0 z;
-              hidden = λ q y. both (splits σ.fan d) y.0 z;
-              two = λ y. both (splits σ.fan d) y.0 z;
-              level_is = rw z refl;
-            },
-            nothing_yet z,
-            omega arith,
-            omega arith,
-            tt,
-          )
-              held_l
-              (λ t b q y m. ⊎_elim (not_mine t q m) (λ u. both (splits σ.fan d) u.0 z) y)
-              (λ t b q y. ι.owes s t b q (owing q y))
-              (λ _. ι.sizes s b8))
-          laws_l)
+          record { seated = k.0.seated; begins = seated_b },
+          hold_l (phase.Fill Own 1),
+          now_l,
+          record {
+            inside = λ q y. both (splits σ.fan d) y.0 z;
+            hidden = λ q y. both (splits σ.fan d) y.0 z;
+            two = λ y. both (splits σ.fan d) y.0 z;
+            level_is = rw z refl;
+          },
+          nothing_yet z,
+          omega arith,
+          omega arith,
+          tt,
+        )
+        held_l
+        (λ t b q y m. ⊎_elim (not_mine t q m) (λ u. both (splits σ.fan d) u.0 z) y)
+        (λ t b q y. ι.owes s t b q (owing q y))
+        (λ _. ι.sizes s b8))
+        laws_l)
       where
         nothing_yet : splits σ.fan (draft_of σ.order.before σ.fan (f s)) ≡ false
             → Filled σ.fan (put W.cells (f s).node 0 (version (f s) + 1)) (with_draft (f s) (draft_of σ.order.before σ.fan (f s)) (phase.Fill Own 1)) (done_in Own 1)
@@ -224,22 +224,22 @@ module _ {σ : Setting} {W : World} {f : ℕ → Seat} {h : History} (ι : Inv �
         let x' = with_draft x (with_nodes x W.count) (phase.Fill p 0) in
         let ev = answer_of (Step s) r in
         stepped_as (good_write ι ev s x' W.cells c' (writing_none ι ev s x' c' (omega arith) room) (latched_none ι ev s x' (sym own_held)) (plain_quiet h s r (quiet_gone x.node) σ.start) (
-            record { seated = k.0.seated; begins = doing_quiet ι s b8 r (quiet_gone x.node) x k.0 },
-            hold_t (phase.Fill p 0),
-            now_t,
-            taken_t (phase.Fill p 0),
-            filled,
-            low,
-            omega arith,
-            u,
-          )
-              (holds_quiet h s r (quiet_gone x.node) s ∙ ι.held_by s ∙ own_held)
-              (λ t b q y m. ⊎_elim
-              (λ (z : q ≡ x.node). ι.apart s t b q (mine_t q z) m)
-              (λ z. omega (arith, (fresh_in (phase.Fill p 0) q z).0, mine_below σ W h t (f t).phase (f t) q ι.nodes.below (ι.seats t) m)) y)
-              (λ t b q y. ι.owes s t b q (owing_t q y))
-              (λ _. ι.sizes s b8))
-          laws_t
+          record { seated = k.0.seated; begins = doing_quiet ι s b8 r (quiet_gone x.node) x k.0 },
+          hold_t (phase.Fill p 0),
+          now_t,
+          taken_t (phase.Fill p 0),
+          filled,
+          low,
+          omega arith,
+          u,
+        )
+        (holds_quiet h s r (quiet_gone x.node) s ∙ ι.held_by s ∙ own_held)
+        (λ t b q y m. ⊎_elim
+        (λ (z : q ≡ x.node). ι.apart s t b q (mine_t q z) m)
+        (λ z. omega (arith, (fresh_in (phase.Fill p 0) q z).0, mine_below σ W h t (f t).phase (f t) q ι.nodes.below (ι.seats t) m)) y)
+        (λ t b q y. ι.owes s t b q (owing_t q y))
+        (λ _. ι.sizes s b8))
+        laws_t
 
     pub takes_nodes : 32 * (W.count + needed (f s)) ≤ length W.cells
         → Stepped σ W f h s W.cells (with_draft (f s) (with_nodes (f s) W.count) (phase.Fill (cond (is_root (f s)) Left Right) 0)) (W.count + needed (f s)) (GoneOn (f s).node)
@@ -264,30 +264,30 @@ module _ {σ : Setting} {W : World} {f : ℕ → Seat} {h : History} (ι : Inv �
         let now : place (ev ∷ h) s ≡ elsewhere = place_own h s r refl ∙ rw k.2 refl in
         let not_n : (t : ℕ) → t ≢ s → (q : ℕ) → Mine σ.fan (f t) q → q ≢ n = λ t d q m z. ι.apart s t d q (rw e z) m in
         stepped_as (good_write ι ev s (in_phase x (phase.End (stopped x.operation outcome.Full))) m' W.count
-              (record {
-                len = length_put W.cells n 0 v;
-                more = omega arith;
-                fits = ι.nodes.room;
-                up = λ q o. elim (cases_eq q n) [ inl z ↦ rw (z, lk.here) (omega (arith, a.mine, a.planned.frees)) | inr d ↦ omega (arith, lk.other q d) ];
-                rise = λ q o z d. elim (cases_eq q n) [ inl y ↦ absurd (omega (arith, a.mine, a.even, ap (lock W.cells) y)) | inr y ↦ absurd (d (lk.other q y)) ];
-                same = λ q o z i b c. elim (cases_eq q n) [
-                  | inl y ↦ rw y (lk.rest n i b c ∙ k.3 i b c)
-                  | inr d ↦ lk.far q i d c ∙ ι.nodes.same q o (rw (lk.other q d) at z) i b c
-                ];
-                own = λ t d q i m c. lk.far q i (not_n t d q m) c;
-              })
-              (λ q o z.
-              let d : q ≢ n = λ y. (let z' : lock m' n % 2 ≡ 1 = rw y at z in omega (arith, lk.here, a.planned.frees, a.even)) in
-              let t = ι.nodes.latched q o (rw (lk.other q d) at z) in
-              let own : holding x ≡ Some n = rw e refl in
-              inr (t.0, λ (y : t.0 ≡ s). d (sym (same_Some n q (sym own ∙ rw y at t.1))), t.1))
-              (λ _. refl) (
-                stopped_paid ι s b8 x.operation outcome.Full x.key (ev ∷ h) refl a.writes
-                    (begins_same σ.start h (ev ∷ h) s x.operation x.key (begun_own h s r refl) (publishings_own h s r refl σ.start) k.0.begins),
-                rw now refl,
-              )
-              (holds_own h s r refl)
-              (λ t b q y m. y)
-              (λ t b q y. absurd (none-some q y))
-              (λ _. ι.sizes s b8))
-          (laws_plain σ.start h ev s refl (rw k.2 refl))
+        (record {
+          len = length_put W.cells n 0 v;
+          more = omega arith;
+          fits = ι.nodes.room;
+          up = λ q o. elim (cases_eq q n) [ inl z ↦ rw (z, lk.here) (omega (arith, a.mine, a.planned.frees)) | inr d ↦ omega (arith, lk.other q d) ];
+          rise = λ q o z d. elim (cases_eq q n) [ inl y ↦ absurd (omega (arith, a.mine, a.even, ap (lock W.cells) y)) | inr y ↦ absurd (d (lk.other q y)) ];
+          same = λ q o z i b c. elim (cases_eq q n) [
+            | inl y ↦ rw y (lk.rest n i b c ∙ k.3 i b c)
+            | inr d ↦ lk.far q i d c ∙ ι.nodes.same q o (rw (lk.other q d) at z) i b c
+          ];
+          own = λ t d q i m c. lk.far q i (not_n t d q m) c;
+        })
+        (λ q o z.
+        let d : q ≢ n = λ y. (let z' : lock m' n % 2 ≡ 1 = rw y at z in omega (arith, lk.here, a.planned.frees, a.even)) in
+        let t = ι.nodes.latched q o (rw (lk.other q d) at z) in
+        let own : holding x ≡ Some n = rw e refl in
+        inr (t.0, λ (y : t.0 ≡ s). d (sym (same_Some n q (sym own ∙ rw y at t.1))), t.1))
+        (λ _. refl) (
+          stopped_paid ι s b8 x.operation outcome.Full x.key (ev ∷ h) refl a.writes
+              (begins_same σ.start h (ev ∷ h) s x.operation x.key (begun_own h s r refl) (publishings_own h s r refl σ.start) k.0.begins),
+          rw now refl,
+        )
+        (holds_own h s r refl)
+        (λ t b q y m. y)
+        (λ t b q y. absurd (none-some q y))
+        (λ _. ι.sizes s b8))
+        (laws_plain σ.start h ev s refl (rw k.2 refl))
