@@ -160,6 +160,9 @@ module _ {σ : Setting} {W : World} {f : ℕ → Seat} {h : History} (ι : Inv �
           k.1.planned.edge_is ∙ sym (last_is i C i_in)
           ∙ ap (λ (j : ℕ). N.last_key (take j (row C))) i_is ∙ ap (λ (l : List N.Entry). N.last_key (take (left_count σ.fan) l)) D.rows_are
 
+      posts_edge : posted_key (f s) ≡ N.last_key (take (left_count σ.fan) D.rows)
+      posts_edge = edge_is
+
       left_rows : row (left_entries (f s).draft) ≡ take (left_count σ.fan) D.rows
       left_rows = rw k.1.planned.left_is (sym (take-map as_entry (left_count σ.fan) (drafted (f s).draft)) ∙ ap (take (left_count σ.fan)) row_drafted)
 
@@ -208,7 +211,7 @@ module _ {σ : Setting} {W : World} {f : ℕ → Seat} {h : History} (ι : Inv �
           let aim_is : (f s).aim + 1 ≡ suc y.level = omega (arith, k.1.there, level_y) in
           cond_both (ltb ((f s).aim + 1) (2 ^ 64)) (posting (f s) (posted_key (f s)) d) (in_phase (f s) (phase.End outcome.Untold))
           (λ x'. Stepped σ W f h s (put W.cells n 0 (f s).draft.freeing) x' W.count r)
-          (λ _. goes_posting g u z m (posted_key (f s)) edge_is (rw aim_is S))
+          (λ _. goes_posting g u z m (posted_key (f s)) posts_edge (rw aim_is S))
           (λ _. ends g u outcome.Untold (D.was_new z))
 
       root_split : is_root (f s) ≡ true
