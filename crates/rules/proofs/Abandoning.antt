@@ -1,15 +1,12 @@
 -- What an abandon reports is right: in each phase that may be abandoned it is known whether the operation was published.
-use Rattle.std.proofs.Common.{◌≡◌, ℕ, Bool, true, false, ◌≢◌, List, [], ◌∷◌, Option, refl, inl, inr, arith}
-use Rattle.std.proofs.lemmas.Bool.{cases_eq, ne_eqb}
+use Rattle.std.proofs.Common.{◌≡◌, ℕ, Bool, true, false, ◌≢◌, [], Option, arith}
 use Rattle.rules.specs.Calls.{is_post, is_written}
 use Rattle.rules.specs.Histories.{History, Abandon}
 use Rattle.rules.specs.PlainMap.{publishings}
 use Rattle.rules.specs.Laws.{AbandonLaw}
 use Rattle.rules.specs.declared.report.Outcome.{Outcome}
-use Rattle.rules.specs.declared.report.Outcome.TheVariants as outcome
 use Rattle.rules.specs.declared.report.Report.TheVariants.{Abandoned}
 use Rattle.rules.specs.declared.seat.Operation.{Operation}
-use Rattle.rules.specs.declared.seat.Operation.TheVariants as operation
 use Rattle.rules.proofs.Events.{answer_of}
 use Rattle.rules.proofs.Inv.{Begins, Paid}
 
@@ -17,22 +14,12 @@ abbrev pub PublishedAs : (ℕ → Option ℕ) → History → ℕ → Bool → T
 PublishedAs m₀ h s true = publishings m₀ h s ≢ []
 PublishedAs m₀ h s false = publishings m₀ h s ≡ []
 
-once : (l : List (Option ℕ)) (o : Option ℕ) → l ≡ o ∷ [] → l ≢ []
-once l o e z = let y : ◌≡◌ {A = ℕ} 0 1 = cc in omega arith
-
 -- before its release a put is not published, and a posting comes after one
 pub begun_published : (m₀ : ℕ → Option ℕ) (h : History) (s : ℕ) (t : Operation) (k : ℕ) → Begins m₀ h s t k → PublishedAs m₀ h s (is_post t)
-begun_published m₀ h s operation.Find k b = b.1
-begun_published m₀ h s (operation.Put v) k b = b.1
-begun_published m₀ h s (operation.Post m d) k b = once (publishings m₀ h s) _ b.1
+begun_published m₀ h s t k b = grind arith
 
 pub ended_published : (m₀ : ℕ → Option ℕ) (h : History) (s : ℕ) (o : Outcome) → Paid m₀ h s o → PublishedAs m₀ h s (is_written o)
-ended_published m₀ h s outcome.Stored p = once (publishings m₀ h s) _ p.1
-ended_published m₀ h s (outcome.Replaced v) p = once (publishings m₀ h s) _ p.1
-ended_published m₀ h s outcome.Untold p = once (publishings m₀ h s) _ p.1
-ended_published m₀ h s outcome.Full p = p.1
-ended_published m₀ h s outcome.Worn p = p.1
+ended_published m₀ h s o p = grind arith
 
 pub abandon_law : (m₀ : ℕ → Option ℕ) (h : History) (i : ℕ) (p : Bool) → PublishedAs m₀ h i p → (s : ℕ) → AbandonLaw m₀ h (answer_of (Abandon i) (Abandoned p)) s
-abandon_law m₀ h i true k s t = elim (cases_eq s i) [ inl z ↦ inl (refl, rw z k) | inr d ↦ absurd (rw (ne_eqb s i d) at t) ]
-abandon_law m₀ h i false k s t = elim (cases_eq s i) [ inl z ↦ inr (refl, rw z k) | inr d ↦ absurd (rw (ne_eqb s i d) at t) ]
+abandon_law m₀ h i p k s t = grind arith

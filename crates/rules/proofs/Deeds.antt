@@ -1,6 +1,8 @@
 -- A deed is what an operation does to the tree at its release. Each has three shapes: in place, a split, and a split of the root.
-use Rattle.std.proofs.Common.{◌≡◌, ℕ, zero, suc, ◌+◌, ◌-◌, ◌^◌, ◌<◌, ◌≤◌, true, false, cond, ltb, ◌≢◌, List, [], ◌∷◌, length, take, drop, Some, None, Option, sym, refl, ap, ◌∙◌, inl, inr, arith, length-drop, length-take}
+use Rattle.std.proofs.Common.{◌≡◌, ℕ, suc, ◌+◌, ◌-◌, ◌^◌, ◌<◌, ◌≤◌, true, false, cond, ltb, ◌≢◌, List, [], ◌∷◌, length, take, drop, Some, None, Option, sym, refl, ap, ◌∙◌, inl, inr, arith, length-drop, length-take}
 use Rattle.std.proofs.lemmas.Bool.{cond_both, cond-true, cond-false, eqb-true, eqb-false, ltb-true, ltb-false}
+use Rattle.std.proofs.lemmas.Option.{none-some}
+use Rattle.std.proofs.lemmas.List.{length-map, take-map, drop-map}
 use Rattle.tree.specs.Node as N
 use Rattle.tree.specs.Tree as T
 use Rattle.tree.specs.Updates as U
@@ -13,6 +15,7 @@ use Rattle.rules.specs.Events.{begun, putting}
 use Rattle.rules.specs.PlainMap.{publishings, plain_map}
 use Rattle.rules.specs.Latches.{holds, place, released}
 use Rattle.rules.specs.declared.seat.Entry.{Entry}
+use Rattle.rules.specs.declared.report.Outcome.{Outcome}
 use Rattle.rules.specs.declared.report.Outcome.TheVariants as outcome
 use Rattle.rules.specs.declared.seat.Part.{Part}
 use Rattle.rules.specs.declared.seat.Part.TheVariants.{Left, Right, Own}
@@ -20,45 +23,27 @@ use Rattle.rules.specs.declared.seat.Phase.{Phase}
 use Rattle.rules.specs.declared.seat.Phase.TheVariants as phase
 use Rattle.rules.specs.declared.report.Report.{Report}
 use Rattle.rules.specs.declared.seat.Seat.{Seat}
-use Rattle.rules.proofs.Basics.{no_none, both}
+use Rattle.rules.proofs.Basics.{both}
 use Rattle.rules.proofs.Cells.{word, put}
-use Rattle.rules.proofs.Entries.{row, length_row, row_take, row_drop, last_is}
+use Rattle.rules.proofs.Entries.{as_entry, row, last_is}
 use Rattle.rules.proofs.Words.{encodes_same, encodes_as}
 use Rattle.rules.proofs.Events.{answer_of}
-use Rattle.rules.proofs.Inv.{Setting, World, Linked, Open, post_of, owed_in, Uses, first, Paid, Doing, SeatIn, Coded, Inv}
+use Rattle.rules.proofs.Inv.{Setting, World, Linked, Open, owed_in, Uses, first, Paid, SeatIn, Coded, Inv}
 use Rattle.rules.proofs.Rely.{doing_open}
 use Rattle.rules.proofs.Good.{owed, StepLaws}
 use Rattle.rules.proofs.Steps.{Stepped, Seen, seen}
 use Rattle.rules.proofs.Releasing.{written, Update, released_good}
 
+-- a seat after its release
+abbrev pub after_release : ℕ → Seat → Seat
+after_release fan x = cond (splits fan x.draft) (cond (is_root x) (in_phase x (phase.End x.draft.outcome)) (posts_on x)) (in_phase x (phase.End x.draft.outcome))
+
 -- a node that a seat posts is linked
-is_linked : (v lo : ℕ) (p : T.Place) → T.Is v lo p → Linked p
-is_linked v lo T.free z = z
-is_linked v lo (T.held y a b) z = tt
-
-aims_open : (σ : Setting) (W : World) (post : Option ℕ) (k aim d : ℕ) → post ≡ Some d → T.Aims σ.order W.tree post k aim → Open W d
-aims_open σ W None k aim d e z = no_none d e
-aims_open σ W (Some c) k zero d e z = absurd z
-aims_open σ W (Some c) k (suc v) d e z = let q : c ≡ d = cc in rw (sym q) (is_linked v (suc (σ.order.rank k)) (W.tree c) z.place.1)
-
-doing_owed : {σ : Setting} {W : World} {h : History} {s : ℕ} {x : Seat} (d : ℕ) → Doing σ W h s x → post_of x.operation ≡ Some d → Open W d
-doing_owed {σ} {W} {x} d k e = aims_open σ W (post_of x.operation) x.key x.aim d e k.seated.aims
-
 pub owed_open : (σ : Setting) (W : World) (h : History) (s : ℕ) (ph : Phase) (x : Seat) (d : ℕ) → SeatIn σ W h s ph x → owed_in ph x.operation ≡ Some d → Open W d
-owed_open σ W h s phase.Idle x d k e = no_none d e
-owed_open σ W h s phase.Look x d k e = doing_owed d k.0 e
-owed_open σ W h s (phase.Copy i) x d k e = doing_owed d k.0 e
-owed_open σ W h s phase.Check x d k e = doing_owed d k.0 e
-owed_open σ W h s phase.Latch x d k e = doing_owed d k.0 e
-owed_open σ W h s phase.Take x d k e = doing_owed d k.0 e
-owed_open σ W h s (phase.Fill p i) x d k e = doing_owed d k.0 e
-owed_open σ W h s phase.Release x d k e = doing_owed d k.0 e
-owed_open σ W h s phase.Undo x d k e = doing_owed d k.0 e
-owed_open σ W h s (phase.End r) x d k e = no_none d e
+owed_open σ W h s ph x d k e = grind arith
 
 not_linked : (p : T.Place) → ¬ (Linked p) → p ≡ T.free
-not_linked T.free z = refl
-not_linked (T.held y a b) z = absurd (z tt)
+not_linked p z = grind arith
 
 module _ {σ : Setting} {W : World} {f : ℕ → Seat} {h : History} (ι : Inv σ W f h) (s : ℕ) (b8 : s < 8) (e : (f s).phase ≡ phase.Release) (k : SeatIn σ W h s phase.Release (f s)) where
   pub shown : Seen σ W (f s)
@@ -89,7 +74,7 @@ module _ {σ : Setting} {W : World} {f : ℕ → Seat} {h : History} (ι : Inv �
     row_drafted = ap row k.1.planned.rows_are ∙ D.rows_are
 
     length_rows : length D.rows ≡ (f s).draft.len
-    length_rows = ap length (sym D.rows_are) ∙ length_row (content σ.order.before (f s)) ∙ sym k.1.planned.len_is
+    length_rows = ap length (sym D.rows_are) ∙ length-map (content σ.order.before (f s)) as_entry ∙ sym k.1.planned.len_is
 
     length_drafted : length (drafted (f s).draft) ≡ (f s).draft.len
     length_drafted = ap length k.1.planned.rows_are ∙ sym k.1.planned.len_is
@@ -101,33 +86,22 @@ module _ {σ : Setting} {W : World} {f : ℕ → Seat} {h : History} (ι : Inv �
         → length es ≤ σ.fan → l ≡ y.level → i ≡ y.link → g ≡ y.high → row es ≡ y.entries → Coded σ W (λ j. word W.cells q j) (T.held y a b)
     codes q p y a b l i g es at u is few x1 x2 x3 x4 = (
       encodes_same (node_word l i g es) (λ j. word W.cells q j) y (λ j c d. rw at (k.4 p u j (low p c) d) ∙ is j) (encodes_as l i g es y (omega (arith, σ.most)) x1 x2 x3 x4),
-      rw (sym x4) (rw length_row few),
+      rw (sym x4) (rw length-map few),
     )
       where
         low : {j : ℕ} (p : Part) → 0 < j → first p ≤ j
-        low Left c = omega arith
-        low Right c = omega arith
         low Own c = c
+        low p c = omega arith
 
     module _ (g : ℕ → T.Place) (u : Update σ W (f s) g D.settled (plain_map σ.start (answer_of (Step s) r ∷ h))) where
       -- the put ends
-      ends : Stepped σ W f h s (put W.cells (f s).node 0 (f s).draft.freeing) (in_phase (f s) (phase.End (f s).draft.outcome)) W.count r
-      ends =
+      ends : (o : Outcome) → Paid σ.start (answer_of (Step s) r ∷ h) s o → Stepped σ W f h s (put W.cells (f s).node 0 (f s).draft.freeing) (in_phase (f s) (phase.End o)) W.count r
+      ends o paid =
           record {
             words = written σ.fan W (f s);
             tree = g;
-            good = released_good ι s b8 e k g D.settled r u (in_phase (f s) (phase.End (f s).draft.outcome)) D.gone refl (λ q z. z) D.free (λ t d q z. no_none q z)
-                (D.ended, rw D.now refl) (ι.sizes s b8);
-            laws = D.laws;
-          }
-
-      untold : splits σ.fan (f s).draft ≡ true → Stepped σ W f h s (put W.cells (f s).node 0 (f s).draft.freeing) (in_phase (f s) (phase.End outcome.Untold)) W.count r
-      untold z =
-          record {
-            words = written σ.fan W (f s);
-            tree = g;
-            good = released_good ι s b8 e k g D.settled r u (in_phase (f s) (phase.End outcome.Untold)) D.gone refl (λ q z. z) D.free (λ t d q z. no_none q z)
-                (D.was_new z, rw D.now refl) (ι.sizes s b8);
+            good = released_good ι s b8 e k g D.settled r u (in_phase (f s) (phase.End o)) D.gone refl (λ q z. z) D.free (λ t d q z. absurd (none-some q z))
+                (paid, rw D.now refl) (ι.sizes s b8);
             laws = D.laws;
           }
 
@@ -168,6 +142,7 @@ module _ {σ : Setting} {W : World} {f : ℕ → Seat} {h : History} (ι : Inv �
           linked = rw R.now tt;
           answers = K.1;
         })
+        (f s).draft.outcome D.ended
 
     module _ (z : splits σ.fan (f s).draft ≡ true) where
       long : σ.fan < (f s).draft.len
@@ -189,10 +164,10 @@ module _ {σ : Setting} {W : World} {f : ℕ → Seat} {h : History} (ι : Inv �
       posts_edge = edge_is
 
       left_rows : row (left_entries (f s).draft) ≡ take (left_count σ.fan) D.rows
-      left_rows = rw k.1.planned.left_is (row_take (left_count σ.fan) (drafted (f s).draft) ∙ ap (take (left_count σ.fan)) row_drafted)
+      left_rows = rw k.1.planned.left_is (sym (take-map as_entry (left_count σ.fan) (drafted (f s).draft)) ∙ ap (take (left_count σ.fan)) row_drafted)
 
       right_rows : row (right_entries (f s).draft) ≡ drop (left_count σ.fan) D.rows
-      right_rows = rw k.1.planned.left_is (row_drop (left_count σ.fan) (drafted (f s).draft) ∙ ap (drop (left_count σ.fan)) row_drafted)
+      right_rows = rw k.1.planned.left_is (sym (drop-map as_entry (left_count σ.fan) (drafted (f s).draft)) ∙ ap (drop (left_count σ.fan)) row_drafted)
 
       left_few : length (left_entries (f s).draft) ≤ σ.fan
       left_few = rw length-take (omega (arith, σ.least, k.1.planned.left_is))
@@ -237,7 +212,7 @@ module _ {σ : Setting} {W : World} {f : ℕ → Seat} {h : History} (ι : Inv �
           cond_both (ltb ((f s).aim + 1) (2 ^ 64)) (posting (f s) (posted_key (f s)) d) (in_phase (f s) (phase.End outcome.Untold))
           (λ x'. Stepped σ W f h s (put W.cells n 0 (f s).draft.freeing) x' W.count r)
           (λ _. goes_posting g u z m (posted_key (f s)) posts_edge (rw aim_is S))
-          (λ _. untold g u z)
+          (λ _. ends g u outcome.Untold (D.was_new z))
 
       root_split : is_root (f s) ≡ true
           → Stepped σ W f h s (put W.cells (f s).node 0 (f s).draft.freeing) (in_phase (f s) (phase.End (f s).draft.outcome)) W.count r
@@ -277,11 +252,9 @@ module _ {σ : Setting} {W : World} {f : ℕ → Seat} {h : History} (ι : Inv �
             linked = rw (ap g n0 ∙ R.now) tt;
             answers = K.1;
           } in
-          ends g u
+          ends g u (f s).draft.outcome D.ended
 
-    pub releases_by : Stepped σ W f h s (put W.cells (f s).node 0 (f s).draft.freeing)
-        (cond (splits σ.fan (f s).draft) (cond (is_root (f s)) (in_phase (f s) (phase.End (f s).draft.outcome)) (posts_on (f s)))
-        (in_phase (f s) (phase.End (f s).draft.outcome))) W.count r
+    pub releases_by : Stepped σ W f h s (put W.cells (f s).node 0 (f s).draft.freeing) (after_release σ.fan (f s)) W.count r
     releases_by =
         cond_both (splits σ.fan (f s).draft) _ _ (λ x'. Stepped σ W f h s (put W.cells (f s).node 0 (f s).draft.freeing) x' W.count r)
         (λ z. cond_both (is_root (f s)) _ _ (λ x'. Stepped σ W f h s (put W.cells (f s).node 0 (f s).draft.freeing) x' W.count r) (root_split z) (split z))

@@ -1,34 +1,16 @@
 -- A node's entries are those of the tree: choosing a child, finding, storing and posting agree on both sides.
-use Rattle.std.proofs.Common.{◌≡◌, ℕ, zero, suc, ◌<◌, Bool, true, false, cond, eqb, ◌≢◌, List, [], ◌∷◌, length, get_or, take, drop, None, sym, refl, ap, ◌∙◌, inl, inr, arith}
-use Rattle.std.proofs.lemmas.Bool.{eqb-true, ne_eqb, cases_Bool, ltb-false}
+use Rattle.std.proofs.Common.{◌≡◌, ℕ, zero, suc, ◌<◌, Bool, false, cond, List, [], ◌∷◌, map, length, get_or, take, None, refl, ap, arith}
 use Rattle.std.proofs.lemmas.Bool.Decides.{nat_tests}
 use Rattle.tree.specs.Node as N
 use Rattle.tree.specs.Tree as T
 use Rattle.rules.specs.Nodes.{entry, child, found, put_in, post_in}
 use Rattle.rules.specs.declared.seat.Entry.{Entry}
 
+abbrev pub as_entry : Entry → N.Entry
+as_entry e = N.entry e.key e.value
+
 abbrev pub row : List Entry → List N.Entry
-row [] = []
-row (e ∷ es) = N.entry e.key e.value ∷ row es
-
-pub length_row : (es : List Entry) → length (row es) ≡ length es
-length_row [] = refl
-length_row (e ∷ es) = ap suc (length_row es)
-
-pub row_take : (n : ℕ) (es : List Entry) → row (take n es) ≡ take n (row es)
-row_take zero es = refl
-row_take (suc n) [] = refl
-row_take (suc n) (e ∷ es) = rw (row_take n es) refl
-
-pub row_drop : (n : ℕ) (es : List Entry) → row (drop n es) ≡ drop n (row es)
-row_drop zero es = refl
-row_drop (suc n) [] = refl
-row_drop (suc n) (e ∷ es) = row_drop n es
-
-pub get_or_row : (es : List Entry) (j : ℕ) → get_or (row es) j (N.entry 0 0) ≡ N.entry (get_or es j (entry 0 0)).key (get_or es j (entry 0 0)).value
-get_or_row [] j = refl
-get_or_row (e ∷ es) zero = refl
-get_or_row (e ∷ es) (suc j) = get_or_row es j
+row es = map as_entry es
 
 pub last_is : (i : ℕ) (es : List Entry) → i < length es → N.last_key (take (suc i) (row es)) ≡ (get_or es i (entry 0 0)).key
 last_is i [] q = absurd (omega arith)
@@ -45,45 +27,23 @@ module _ (before : ℕ → ℕ → Bool) where
   pub row_post : (m d : ℕ) (es : List Entry) → row (post_in before m d es) ≡ N.posted before (row es) m d
   row_post m d [] = refl
   row_post m d (e ∷ []) = refl
-  row_post m d (e ∷ (f ∷ es)) =
-      elim (before e.key m) as (λ b. row (cond b (e ∷ post_in before m d (f ∷ es)) (entry m e.value ∷ (entry e.key d ∷ (f ∷ es)))) ≡ cond b (N.entry e.key e.value ∷ N.posted before (row (f ∷ es)) m d) (N.entry m e.value ∷ (N.entry e.key d ∷ row (f ∷ es))))
-      [ true ↦ ap (λ z. N.entry e.key e.value ∷ z) (row_post m d (f ∷ es)) | false ↦ refl ]
+  row_post m d (e ∷ (f ∷ es)) = grind (arith, row_post m d (f ∷ es))
 
   -- the rules ask `before` first, the tree asks for the same key first
   pub row_put : (k v : ℕ) → before k k ≡ false → (es : List Entry) → row (put_in before k v es) ≡ N.insert before (row es) k v
   row_put k v never [] = refl
-  row_put k v never (e ∷ es) =
-      elim (cases_Bool (eqb e.key k)) [
-        | inl same ↦ (let b : before e.key k ≡ false = rw (eqb-true e.key k same) never in rw (b, same) refl)
-        | inr other ↦ rw other (elim (before e.key k) as (λ b. row (cond b (e ∷ put_in before k v es) (cond false (entry k v ∷ es) (entry k v ∷ (e ∷ es)))) ≡ cond b (N.entry e.key e.value ∷ N.insert before (row es) k v) (N.entry k v ∷ (N.entry e.key e.value ∷ row es)))
-            [ true ↦ ap (λ z. N.entry e.key e.value ∷ z) (row_put k v never es) | false ↦ refl ])
-      ]
+  row_put k v never (e ∷ es) = grind (arith, nat_tests, row_put k v never es)
 
   -- a put that makes the row longer put a new key
   pub found_new : (k v : ℕ) (es : List Entry) → length es < length (put_in before k v es) → found before k es ≡ None
   found_new k v [] h = refl
-  found_new k v (e ∷ es) h =
-      elim (cases_Bool (before e.key k)) [
-        | inl b ↦ rw b (found_new k v es (let z : suc (length es) < suc (length (put_in before k v es)) = rw b at h in omega arith))
-        | inr b ↦ rw b (elim (cases_Bool (eqb e.key k)) [ inl s ↦ absurd (let z : suc (length es) < suc (length es) = rw (b, s) at h in omega arith) | inr s ↦ rw s refl ])
-      ]
+  found_new k v (e ∷ es) h = grind (arith, nat_tests, found_new k v es)
 
 module _ (o : T.Order) where
   past : (k lo hi : ℕ) (es : List N.Entry) → T.Key o k → o.rank k < lo → T.Leaf o lo hi es → N.lookup es k ≡ None
   past k lo hi [] κ b l = refl
-  past k lo hi (N.entry e v ∷ es) κ b l =
-      let d : e ≢ k = λ z. omega (arith, ap o.rank z, l.1) in
-      rw (ne_eqb e k d) (past k (suc (o.rank e)) hi es κ (omega (arith, l.1)) l.2)
+  past k lo hi (N.entry e v ∷ es) κ b l = grind (arith, nat_tests, past k (suc (o.rank e)) hi es κ)
 
   pub found_is : (k lo hi : ℕ) (es : List Entry) → T.Key o k → T.Leaf o lo hi (row es) → found o.before k es ≡ N.lookup (row es) k
   found_is k lo hi [] κ l = refl
-  found_is k lo hi (e ∷ es) κ l =
-      let is = o.before_is e.key k l.0 κ in
-      elim (cases_Bool (eqb e.key k)) [
-        | inl same ↦ (let z = eqb-true e.key k same in let b : o.before e.key k ≡ false = is ∙ grind (arith, nat_tests, ap o.rank z) in rw (b, same) refl)
-        | inr other ↦
-            rw other (elim (cases_Bool (o.before e.key k)) [
-              | inl b ↦ rw b (found_is k (suc (o.rank e.key)) hi es κ l.2)
-              | inr b ↦ rw b (sym (past k (suc (o.rank e.key)) hi (row es) κ (omega (arith, ltb-false (o.rank e.key) (o.rank k) (sym is ∙ b))) l.2))
-            ])
-      ]
+  found_is k lo hi (e ∷ es) κ l = grind (arith, nat_tests, o.before_is e.key k l.0 κ, past k (suc (o.rank e.key)) hi (row es) κ, found_is k (suc (o.rank e.key)) hi es κ l.2)

@@ -1,14 +1,13 @@
 -- One event more: what holds of the latches, the places in reading, the begins and the publishings of each seat after it.
-use Rattle.std.proofs.Common.{◌≡◌, ℕ, zero, suc, ◌≤◌, Bool, true, false, cond, ◌&&◌, eqb, ltb, leb, ◌≢◌, ◌⊎◌, [], ◌∷◌, drop, Some, None, Ok, Err, Option, refl, ◌∙◌, inl, inr, arith}
-use Rattle.std.proofs.lemmas.Bool.{eq-eqb, ne_eqb, cond-true, cond-false, and_right, and_left, le-ltb}
+use Rattle.std.proofs.Common.{◌≡◌, ℕ, zero, suc, ◌≤◌, true, false, cond, ◌&&◌, eqb, ltb, leb, ◌≢◌, ◌⊎◌, [], ◌∷◌, Some, None, Ok, Err, Option, refl, ◌∙◌, inl, inr, arith}
+use Rattle.std.proofs.lemmas.Bool.{eq-eqb, ne_eqb, cond_both, cond-true, cond-false, and_right, and_left, le-ltb}
 use Rattle.rules.specs.declared.refusal.Refusal.{Refusal}
-use Rattle.rules.specs.declared.refusal.Refusal.TheVariants as refusal
 use Rattle.rules.specs.declared.report.Report.{Report}
 use Rattle.rules.specs.declared.report.Report.TheVariants.{GoneOn}
 use Rattle.rules.specs.Refusals.{refusal_number}
 use Rattle.rules.specs.Reports.{told}
-use Rattle.rules.specs.Histories.{Call, Format, BeginFind, BeginPut, Step, Abandon, Event, History}
-use Rattle.rules.specs.Events.{number, node, accepted, steps, stepped, Begun, finding, putting, begins, begun, seat_of, publishes, sought, restarts}
+use Rattle.rules.specs.Histories.{Call, BeginFind, BeginPut, Step, Event, History}
+use Rattle.rules.specs.Events.{accepted, steps, stepped, Begun, finding, putting, begins, begun, seat_of, publishes, sought, restarts}
 use Rattle.rules.specs.PlainMap.{plain_map, publishings}
 use Rattle.rules.specs.Latches.{holds, starting, looks, place_after, place, since_look, Disturbed}
 
@@ -21,57 +20,24 @@ pub record Untouched (m₀ : ℕ → Option ℕ) (e : Event) (h : History) (s : 
   pub publishings_same : publishings m₀ (e ∷ h) s ≡ publishings m₀ h s
 
 untouched : (m₀ : ℕ → Option ℕ) → (e : Event) (h : History) (s : ℕ) → stepped e s ≡ false → (accepted e && restarts e.call s) ≡ false → begun (e ∷ h) s ≡ begun h s → Untouched m₀ e h s
-untouched m₀ e h s a b c =
-    record {
-      holds_same = cond-false (stepped e s) _ _ a;
-      place_same = cond-false (accepted e && restarts e.call s) _ _ b ∙ cond-false (stepped e s) _ _ a;
-      since_more = cond-false (stepped e s && looks (place h s) (number e) (node e)) _ _ (and_left (stepped e s) (looks (place h s) (number e) (node e)) a);
-      begun_same = c;
-      publishings_same = cond-false (accepted e && restarts e.call s) _ _ b ∙ cond-false (stepped e s && publishes e) _ _ (and_left (stepped e s) (publishes e) a);
-    }
+untouched m₀ e h s a b c = grind arith
 
 not_steps : (c : Call) (s : ℕ) → s ≢ seat_of c → steps c s ≡ false
-not_steps (Format fan) s d = refl
-not_steps (BeginFind i k) s d = refl
-not_steps (BeginPut i k v) s d = refl
-not_steps (Step i) s d = ne_eqb s i d
-not_steps (Abandon i) s d = refl
+not_steps c s d = grind arith
 
 not_restarts : (c : Call) (s : ℕ) → s ≢ seat_of c → restarts c s ≡ false
-not_restarts (Format fan) s d = refl
-not_restarts (BeginFind i k) s d = ne_eqb s i d
-not_restarts (BeginPut i k v) s d = ne_eqb s i d
-not_restarts (Step i) s d = refl
-not_restarts (Abandon i) s d = refl
+not_restarts c s d = grind arith
 
 not_begins : (c : Call) (s : ℕ) (b : Begun) → s ≢ seat_of c → begins c s b ≡ b
-not_begins (Format fan) s b d = refl
-not_begins (BeginFind i k) s b d = cond-false (eqb s i) _ _ (ne_eqb s i d)
-not_begins (BeginPut i k v) s b d = cond-false (eqb s i) _ _ (ne_eqb s i d)
-not_begins (Step i) s b d = refl
-not_begins (Abandon i) s b d = refl
-
-either : {A : Type 0} (b : Bool) (x y : A) → x ≡ y → cond b x y ≡ y
-either true x y e = e
-either false x y e = refl
+not_begins c s b d = grind arith
 
 pub untouched_other : (m₀ : ℕ → Option ℕ) → (e : Event) (h : History) (s : ℕ) → s ≢ seat_of e.call → Untouched m₀ e h s
 untouched_other m₀ e h s d =
     untouched m₀ e h s (and_left (steps e.call s) (accepted e) (not_steps e.call s d)) (and_right (accepted e) (restarts e.call s) (not_restarts e.call s d))
-    (either (accepted e) _ _ (not_begins e.call s (begun h s) d))
+    (cond_both (accepted e) _ _ (λ b. b ≡ begun h s) (λ _. not_begins e.call s (begun h s) d) (λ _. refl))
 
 refused_number : (f : Refusal) → 21 ≤ refusal_number f
-refused_number refusal.Unformatted = omega arith
-refused_number refusal.NoSeat = omega arith
-refused_number refusal.Busy = omega arith
-refused_number refusal.NoCell = omega arith
-refused_number refusal.TooWide = omega arith
-refused_number refusal.NoKey = omega arith
-refused_number refusal.Idle = omega arith
-refused_number refusal.Holding = omega arith
-refused_number refusal.Formatted = omega arith
-refused_number refusal.BadFan = omega arith
-refused_number refusal.TooSmall = omega arith
+refused_number f = grind arith
 
 abbrev pub refused : Call → Refusal → Event
 refused c f = record { call = c; answer = Err f }
@@ -105,7 +71,7 @@ module _ (h : History) (s : ℕ) (r : Report) (told_of : ltb (told r).0 21 ≡ t
   since_own = rw own refl
 
   pub begun_own : begun (answer_of (Step s) r ∷ h) s ≡ begun h s
-  begun_own = either (accepted (answer_of (Step s) r)) _ _ refl
+  begun_own = cond-true (accepted (answer_of (Step s) r)) _ _ told_of
 
   pub publishings_own : (m₀ : ℕ → Option ℕ) → publishings m₀ (answer_of (Step s) r ∷ h) s ≡ cond (eqb (told r).0 3) (plain_map m₀ h (sought (begun h s)) ∷ publishings m₀ h s) (publishings m₀ h s)
   publishings_own m₀ = cond-false (accepted (answer_of (Step s) r) && false) _ _ (and_right (accepted (answer_of (Step s) r)) false refl) ∙ rw own refl
@@ -124,7 +90,7 @@ restarted_put m₀ h s k v = record { holds_same = refl; place_is = rw (eq-eqb s
 
 -- a seat that holds nothing is not the one that holds
 pub not_me : (h : History) (s o n : ℕ) → holds h s ≡ None → holds h o ≡ Some n → o ≢ s
-not_me h s o n free p z = let k : ◌≡◌ {A = ℕ} 0 1 = cc in omega arith
+not_me h s o n free p z = cc
 
 pub disturbed_later : (e : Event) (h : History) (s n : ℕ) → since_look (e ∷ h) s ≡ suc (since_look h s) → Disturbed h s n → Disturbed (e ∷ h) s n
 disturbed_later e h s n more d = (suc d.0, omega (arith, more), d.2, d.3, d.4)
@@ -134,23 +100,15 @@ disturbed_now h s n o d p = (0, omega arith, o, d, p)
 
 pub disturbed_cases : (e : Event) (h : History) (s n : ℕ) → since_look (e ∷ h) s ≡ suc (since_look h s) → Disturbed (e ∷ h) s n
     → ((o : ℕ) × (o ≢ s) × (holds (e ∷ h) o ≡ Some n)) ⊎ Disturbed h s n
-disturbed_cases e h s n more d = go d.0 d.1 d.2 d.3 d.4
-  where
-    go : (j : ℕ) → j ≤ since_look (e ∷ h) s → (o : ℕ) → o ≢ s → holds (drop j (e ∷ h)) o ≡ Some n
-        → ((o : ℕ) × (o ≢ s) × (holds (e ∷ h) o ≡ Some n)) ⊎ Disturbed h s n
-    go zero b o ne p = inl (o, ne, p)
-    go (suc j) b o ne p = inr (j, omega (arith, more), o, ne, p)
+disturbed_cases e h s n more (zero, b, o, ne, p) = inl (o, ne, p)
+disturbed_cases e h s n more (suc j, b, o, ne, p) = inr (j, omega (arith, more), o, ne, p)
 
 -- right after a look
 pub disturbed_looked : (e : Event) (h : History) (s n : ℕ) → since_look (e ∷ h) s ≡ 1 → Disturbed (e ∷ h) s n
     → ((o : ℕ) × (o ≢ s) × (holds (e ∷ h) o ≡ Some n)) ⊎ ((o : ℕ) × (o ≢ s) × (holds h o ≡ Some n))
-disturbed_looked e h s n one d = go d.0 d.1 d.2 d.3 d.4
-  where
-    go : (j : ℕ) → j ≤ since_look (e ∷ h) s → (o : ℕ) → o ≢ s → holds (drop j (e ∷ h)) o ≡ Some n
-        → ((o : ℕ) × (o ≢ s) × (holds (e ∷ h) o ≡ Some n)) ⊎ ((o : ℕ) × (o ≢ s) × (holds h o ≡ Some n))
-    go zero b o ne p = inl (o, ne, p)
-    go (suc zero) b o ne p = inr (o, ne, p)
-    go (suc (suc j)) b o ne p = absurd (omega (arith, one))
+disturbed_looked e h s n one (zero, b, o, ne, p) = inl (o, ne, p)
+disturbed_looked e h s n one (suc zero, b, o, ne, p) = inr (o, ne, p)
+disturbed_looked e h s n one (suc (suc j), b, o, ne, p) = absurd (omega (arith, one))
 
 pub disturbed_before : (e : Event) (h : History) (s n o : ℕ) → since_look (e ∷ h) s ≡ 1 → o ≢ s → holds h o ≡ Some n → Disturbed (e ∷ h) s n
 disturbed_before e h s n o one d p = (1, omega (arith, one), o, d, p)

@@ -1,5 +1,5 @@
 -- A fill: one word of a node that the seat alone may write.
-use Rattle.std.proofs.Common.{◌≡◌, ℕ, ◌+◌, ◌%◌, ◌<◌, ◌≤◌, ltb, ◌≢◌, ◌⊎◌, List, ◌∷◌, Some, sym, refl, ap, ◌∙◌, inl, inr, ⊎_elim, arith}
+use Rattle.std.proofs.Common.{◌≡◌, ℕ, ◌+◌, ◌%◌, ◌<◌, ◌≤◌, ltb, ◌≢◌, ◌⊎◌, List, ◌∷◌, Some, sym, refl, ◌∙◌, inl, inr, arith}
 use Rattle.std.proofs.lemmas.Bool.{cases_eq, cond_both, ltb-true, ltb-false}
 use Rattle.rules.specs.Seats.{in_phase}
 use Rattle.rules.specs.Steps.{part_node, part_next, fill_next, fill_word}
@@ -14,18 +14,19 @@ use Rattle.rules.specs.declared.seat.Seat.{Seat}
 use Rattle.rules.proofs.Cells.{word, put, lock, word_put, word_put_word, word_put_node, length_put}
 use Rattle.rules.proofs.Events.{answer_of, place_own}
 use Rattle.rules.proofs.Inv.{Setting, World, Open, holding_in, post_of, owed_in, Fresh, MineIn, Uses, first, done_in, Filled, Doing, Hold, Taken, SeatIn, Inv}
-use Rattle.rules.proofs.Rely.{doing_open, part_mine}
+use Rattle.rules.proofs.Rely.{doing_open, hold_as, part_mine}
 use Rattle.rules.proofs.Good.{holding, owed, Mine, laws_plain, Writing, with_cells, good_write}
-use Rattle.rules.proofs.Steps.{Stepped, quiet_gone, holds_quiet, plain_quiet, doing_in}
+use Rattle.rules.proofs.Steps.{Stepped, stepped_as, quiet_gone, holds_quiet, plain_quiet, doing_in}
 use Rattle.rules.proofs.Writers.{mine_below, in_cells}
 
-pub filled_in : (fan : ℕ) (m : List ℕ) (x : Seat) (d : Part → ℕ) (ph : Phase) → Filled fan m x d → Filled fan m (in_phase x ph) d
-filled_in fan m x d ph k Left u w a b = k Left u w a b
-filled_in fan m x d ph k Right u w a b = k Right u w a b
-filled_in fan m x d ph k Own u w a b = k Own u w a b
+-- another phase, with so many words of each part
+filled_as : (fan : ℕ) (m : List ℕ) (x : Seat) (d d' : Part → ℕ) (ph : Phase) → ((p : Part) (w : ℕ) → first p ≤ w → w < d' p → w < d p) → Filled fan m x d → Filled fan m (in_phase x ph) d'
+filled_as fan m x d d' ph less k Left u w a b = k Left u w a (less Left w a b)
+filled_as fan m x d d' ph less k p u w a b = k p u w a (less p w a b)
 
-pub filled_less : (fan : ℕ) (m : List ℕ) (x : Seat) (d d' : Part → ℕ) → ((p : Part) (w : ℕ) → first p ≤ w → w < d' p → w < d p) → Filled fan m x d → Filled fan m x d'
-filled_less fan m x d d' less k p u w a b = k p u w a (less p w a b)
+uses_in : (fan : ℕ) (x : Seat) (ph : Phase) (p : Part) → Uses fan x p → Uses fan (in_phase x ph) p
+uses_in fan x ph Left u = u
+uses_in fan x ph p u = u
 
 module _ {σ : Setting} {W : World} {f : ℕ → Seat} {h : History} (ι : Inv σ W f h) (s : ℕ) (b8 : s < 8) (p : Part) (i : ℕ) (e : (f s).phase ≡ phase.Fill p i) (k : SeatIn σ W h s (phase.Fill p i) (f s)) where
   mine_f : (q : ℕ) → (q ≡ (f s).node) ⊎ Fresh σ.fan (f s) q → Mine σ.fan (f s) q
@@ -42,14 +43,16 @@ module _ {σ : Setting} {W : World} {f : ℕ → Seat} {h : History} (ι : Inv �
   near : (j : ℕ) → j ≢ i → word (put W.cells (part_node p (f s)) i (fill_word σ.fan (f s) p i)) (part_node p (f s)) j ≡ word W.cells (part_node p (f s)) j
   near j d = word_put_word W.cells (part_node p (f s)) i j (fill_word σ.fan (f s) p i) d
 
+  one_more : (w : ℕ) → (w < i → word W.cells (part_node p (f s)) w ≡ fill_word σ.fan (f s) p w) → w < i + 1
+      → word (put W.cells (part_node p (f s)) i (fill_word σ.fan (f s) p i)) (part_node p (f s)) w ≡ fill_word σ.fan (f s) p w
+  one_more w was b = elim (cases_eq w i) [ inl z ↦ rw z here | inr d ↦ near w d ∙ was (omega arith) ]
+
   far : (q j : ℕ) → q ≢ part_node p (f s) → j < 32 → word (put W.cells (part_node p (f s)) i (fill_word σ.fan (f s) p i)) q j ≡ word W.cells q j
   far q j d b = word_put_node W.cells (part_node p (f s)) i q j (fill_word σ.fan (f s) p i) d (omega (arith, k.6)) b
 
   -- the word of a linked node is no lock word
   own_first : (q : Part) → Uses σ.fan (f s) q → first q ≤ i → Open W (part_node q (f s)) → 0 < i
-  own_first Left u b o = absurd (k.3.hidden (f s).draft.left (u.0, inr (u.1, refl)) o)
-  own_first Right u b o = absurd (k.3.hidden (f s).draft.right (u, inl refl) o)
-  own_first Own u b o = b
+  own_first q u b o = grind arith
 
   open_lock : (q : ℕ) → Open W q → lock (put W.cells (part_node p (f s)) i (fill_word σ.fan (f s) p i)) q ≡ lock W.cells q
   open_lock q o =
@@ -59,11 +62,7 @@ module _ {σ : Setting} {W : World} {f : ℕ → Seat} {h : History} (ι : Inv �
       ]
 
   even_far : (q : ℕ) → Open W q → lock W.cells q % 2 ≡ 0 → q ≢ part_node p (f s)
-  even_far q o l z =
-      ⊎_elim
-      (λ (y : part_node p (f s) ≡ (f s).node). omega (arith, k.1.mine, k.1.even, ap (lock W.cells) (z ∙ y)))
-      (λ y. k.3.hidden (part_node p (f s)) y (rw z at o))
-      (part_mine σ.fan (f s) p k.7)
+  even_far q o l z = grind arith
 
   writes : Writing σ W f h (answer_of (Step s) (GoneOn (f s).node)) s (put W.cells (part_node p (f s)) i (fill_word σ.fan (f s) p i)) W.count
   writes =
@@ -87,27 +86,20 @@ module _ {σ : Setting} {W : World} {f : ℕ → Seat} {h : History} (ι : Inv �
 -- one word more is filled
 step_filled : {σ : Setting} {W : World} {f : ℕ → Seat} {h : History} (ι : Inv σ W f h) (s : ℕ) (b8 : s < 8) (p : Part) (i : ℕ) (e : (f s).phase ≡ phase.Fill p i) (k : SeatIn σ W h s (phase.Fill p i) (f s))
     → Filled σ.fan (put W.cells (part_node p (f s)) i (fill_word σ.fan (f s) p i)) (f s) (done_in p (i + 1))
-step_filled {σ} {W} {f} ι s b8 Left i e k Left u w a b =
-    elim (cases_eq w i) [ inl z ↦ rw z (here ι s b8 Left i e k) | inr d ↦ near ι s b8 Left i e k w d ∙ k.4 Left u w a (omega arith) ]
-step_filled ι s b8 Left i e k Right u w a b = absurd (omega arith)
-step_filled ι s b8 Left i e k Own u w a b = absurd (omega arith)
-step_filled {σ} {W} {f} ι s b8 Right i e k Left u w a b = far ι s b8 Right i e k (f s).draft.left w (k.3.two u) b ∙ k.4 Left u w a b
-step_filled ι s b8 Right i e k Right u w a b =
-    elim (cases_eq w i) [ inl z ↦ rw z (here ι s b8 Right i e k) | inr d ↦ near ι s b8 Right i e k w d ∙ k.4 Right u w a (omega arith) ]
-step_filled ι s b8 Right i e k Own u w a b = absurd (omega arith)
+step_filled ι s b8 Left i e k Left u w a b = one_more ι s b8 Left i e k w (k.4 Left u w a) b
+step_filled {f} ι s b8 Right i e k Left u w a b = far ι s b8 Right i e k (f s).draft.left w (k.3.two u) b ∙ k.4 Left u w a b
+step_filled ι s b8 Right i e k Right u w a b = one_more ι s b8 Right i e k w (k.4 Right u w a) b
 step_filled {f} ι s b8 Own i e k Left u w a b = far ι s b8 Own i e k (f s).draft.left w (left_own ι s b8 Own i e k u) b ∙ k.4 Left u w a b
 step_filled {f} ι s b8 Own i e k Right u w a b = far ι s b8 Own i e k (f s).draft.right w (right_own ι s b8 Own i e k u) b ∙ k.4 Right u w a b
-step_filled ι s b8 Own i e k Own u w a b =
-    elim (cases_eq w i) [ inl z ↦ rw z (here ι s b8 Own i e k) | inr d ↦ near ι s b8 Own i e k w d ∙ k.4 Own u w a (omega arith) ]
+step_filled ι s b8 Own i e k Own u w a b = one_more ι s b8 Own i e k w (k.4 Own u w a) b
+step_filled ι s b8 p i e k q u w a b = absurd (omega arith)
 
 module _ {σ : Setting} {W : World} {f : ℕ → Seat} {h : History} (ι : Inv σ W f h) (s : ℕ) (b8 : s < 8) (p : Part) (i : ℕ) (e : (f s).phase ≡ phase.Fill p i) (k : SeatIn σ W h s (phase.Fill p i) (f s)) where
   abbrev W' : World
   W' = with_cells W (put W.cells (part_node p (f s)) i (fill_word σ.fan (f s) p i)) W.count
 
   hold_f : (ph : Phase) → Hold σ W' (in_phase (f s) ph)
-  hold_f ph =
-      let a = k.1 in
-      record { even = a.even; mine = open_lock ι s b8 p i e k (f s).node (doing_open k.0) ∙ a.mine; low = a.low; kept = a.kept; there = a.there; covered = a.covered; planned = a.planned; writes = a.writes }
+  hold_f ph = hold_as (f s) (f s).draft ph (open_lock ι s b8 p i e k (f s).node (doing_open k.0)) (λ _. refl) k.1.planned k.1
 
   taken_f : (ph : Phase) → Taken σ W' (in_phase (f s) ph)
   taken_f ph = let a = k.3 in record { inside = a.inside; hidden = a.hidden; two = a.two; level_is = a.level_is }
@@ -126,90 +118,51 @@ module _ {σ : Setting} {W : World} {f : ℕ → Seat} {h : History} (ι : Inv �
       let r = GoneOn x.node in
       let ev = answer_of (Step s) r in
       let own : holding x ≡ Some x.node = rw e refl in
-      record {
-        words = W.words;
-        tree = W.tree;
-        good = good_write ι ev s (in_phase x ph) (put W.cells (part_node p x) i (fill_word σ.fan x p i)) W.count (writes ι s b8 p i e k)
-            (λ q o l.
-            let t = ι.nodes.latched q o (rw (open_lock ι s b8 p i e k q o) at l) in
-            elim (cases_eq t.0 s) [ inl y ↦ inl (hp ∙ sym own ∙ rw y at t.1) | inr d ↦ inr (t.0, d, t.1) ])
-            (plain_quiet h s r (quiet_gone x.node) σ.start) z (holds_quiet h s r (quiet_gone x.node) s ∙ ι.held_by s ∙ own ∙ sym hp)
-            (λ t d q y. ι.apart s t d q (mp q y))
-            (λ t d q y. ι.owes s t d q (sym op ∙ y))
-            (λ _. ι.sizes s b8);
-        laws = laws_plain σ.start h ev s refl (rw k.2 refl);
-      }
+      stepped_as (good_write ι ev s (in_phase x ph) (put W.cells (part_node p x) i (fill_word σ.fan x p i)) W.count (writes ι s b8 p i e k)
+      (λ q o l.
+      let t = ι.nodes.latched q o (rw (open_lock ι s b8 p i e k q o) at l) in
+      elim (cases_eq t.0 s) [ inl y ↦ inl (hp ∙ sym own ∙ rw y at t.1) | inr d ↦ inr (t.0, d, t.1) ])
+      (plain_quiet h s r (quiet_gone x.node) σ.start) z (holds_quiet h s r (quiet_gone x.node) s ∙ ι.held_by s ∙ own ∙ sym hp)
+      (λ t d q y. ι.apart s t d q (mp q y))
+      (λ t d q y. ι.owes s t d q (sym op ∙ y))
+      (λ _. ι.sizes s b8))
+      (laws_plain σ.start h ev s refl (rw k.2 refl))
 
   owes_f : post_of (f s).operation ≡ owed (f s)
   owes_f = rw e refl
 
+  -- on to word `j` of part `q`
+  to_fill : (q : Part) (j : ℕ) → ((r : Part) (w : ℕ) → first r ≤ w → w < done_in q j r → w < done_in p (i + 1) r) → first q ≤ j → j ≤ 31 → Uses σ.fan (f s) q
+      → Stepped σ W f h s (put W.cells (part_node p (f s)) i (fill_word σ.fan (f s) p i)) (in_phase (f s) (phase.Fill q j)) W.count (GoneOn (f s).node)
+  to_fill q j less a b u =
+      let ph = phase.Fill q j in
+      filled_to ph refl (mine_f ι s b8 p i e k) owes_f (
+        doing_f ph,
+        hold_f ph,
+        now_f,
+        taken_f ph,
+        filled_as σ.fan (put W.cells (part_node p (f s)) i (fill_word σ.fan (f s) p i)) (f s) (done_in p (i + 1)) (done_in q j) ph less (step_filled ι s b8 p i e k),
+        a,
+        b,
+        uses_in σ.fan (f s) ph q u,
+      )
+
 last_fill : {σ : Setting} {W : World} {f : ℕ → Seat} {h : History} (ι : Inv σ W f h) (s : ℕ) (b8 : s < 8) (p : Part) (i : ℕ) (e : (f s).phase ≡ phase.Fill p i) (k : SeatIn σ W h s (phase.Fill p i) (f s)) → 31 ≤ i
     → Stepped σ W f h s (put W.cells (part_node p (f s)) i (fill_word σ.fan (f s) p i)) (in_phase (f s) (part_next p)) W.count (GoneOn (f s).node)
-last_fill {σ} {W} {f} ι s b8 Left i e k b =
-    filled_to ι s b8 Left i e k (phase.Fill Right 0) refl (mine_f ι s b8 Left i e k) (owes_f ι s b8 Left i e k) (
-      doing_f ι s b8 Left i e k (phase.Fill Right 0),
-      hold_f ι s b8 Left i e k (phase.Fill Right 0),
-      now_f ι s b8 Left i e k,
-      taken_f ι s b8 Left i e k (phase.Fill Right 0),
-      filled_in σ.fan (put W.cells (f s).draft.left i (fill_word σ.fan (f s) Left i)) (f s) (done_in Right 0) (phase.Fill Right 0) (filled_less σ.fan (put W.cells (f s).draft.left i (fill_word σ.fan (f s) Left i)) (f s) (done_in Left (i + 1)) (done_in Right 0) less (step_filled ι s b8 Left i e k)),
-      omega arith,
-      omega arith,
-      k.7.0,
-    )
-  where
-    less : (q : Part) (w : ℕ) → first q ≤ w → w < done_in Right 0 q → w < done_in Left (i + 1) q
-    less Left w a c = omega arith
-    less Right w a c = c
-    less Own w a c = c
-last_fill {σ} {W} {f} ι s b8 Right i e k b =
-    filled_to ι s b8 Right i e k (phase.Fill Own 1) refl (mine_f ι s b8 Right i e k) (owes_f ι s b8 Right i e k) (
-      doing_f ι s b8 Right i e k (phase.Fill Own 1),
-      hold_f ι s b8 Right i e k (phase.Fill Own 1),
-      now_f ι s b8 Right i e k,
-      taken_f ι s b8 Right i e k (phase.Fill Own 1),
-      filled_in σ.fan (put W.cells (f s).draft.right i (fill_word σ.fan (f s) Right i)) (f s) (done_in Own 1) (phase.Fill Own 1) (filled_less σ.fan (put W.cells (f s).draft.right i (fill_word σ.fan (f s) Right i)) (f s) (done_in Right (i + 1)) (done_in Own 1) less (step_filled ι s b8 Right i e k)),
-      omega arith,
-      omega arith,
-      tt,
-    )
-  where
-    less : (q : Part) (w : ℕ) → first q ≤ w → w < done_in Own 1 q → w < done_in Right (i + 1) q
-    less Left w a c = c
-    less Right w a c = omega arith
-    less Own w a c = c
+last_fill ι s b8 Left i e k b = to_fill ι s b8 Left i e k Right 0 (elim [ Left ↦ λ w a c. omega arith | Right ↦ λ w a c. c | Own ↦ λ w a c. c ]) (omega arith) (omega arith) k.7.0
+last_fill ι s b8 Right i e k b = to_fill ι s b8 Right i e k Own 1 (elim [ Left ↦ λ w a c. c | Right ↦ λ w a c. omega arith | Own ↦ λ w a c. c ]) (omega arith) (omega arith) tt
 last_fill {σ} {W} {f} ι s b8 Own i e k b =
     filled_to ι s b8 Own i e k phase.Release refl (mine_f ι s b8 Own i e k) (owes_f ι s b8 Own i e k) (
       doing_f ι s b8 Own i e k phase.Release,
       hold_f ι s b8 Own i e k phase.Release,
       now_f ι s b8 Own i e k,
       taken_f ι s b8 Own i e k phase.Release,
-      filled_in σ.fan (put W.cells (f s).node i (fill_word σ.fan (f s) Own i)) (f s) (λ _. 32) phase.Release (filled_less σ.fan (put W.cells (f s).node i (fill_word σ.fan (f s) Own i)) (f s) (done_in Own (i + 1)) (λ _. 32) less (step_filled ι s b8 Own i e k)),
+      filled_as σ.fan (put W.cells (f s).node i (fill_word σ.fan (f s) Own i)) (f s) (done_in Own (i + 1)) (λ _. 32) phase.Release (elim [ Left ↦ λ w a c. c | Right ↦ λ w a c. c | Own ↦ λ w a c. omega arith ]) (step_filled ι s b8 Own i e k),
     )
-  where
-    less : (q : Part) (w : ℕ) → first q ≤ w → w < 32 → w < done_in Own (i + 1) q
-    less Left w a c = c
-    less Right w a c = c
-    less Own w a c = omega arith
 
 pub fills : {σ : Setting} {W : World} {f : ℕ → Seat} {h : History} (ι : Inv σ W f h) (s : ℕ) (b8 : s < 8) (p : Part) (i : ℕ) (e : (f s).phase ≡ phase.Fill p i) (k : SeatIn σ W h s (phase.Fill p i) (f s))
     → Stepped σ W f h s (put W.cells (part_node p (f s)) i (fill_word σ.fan (f s) p i)) (in_phase (f s) (fill_next p i)) W.count (GoneOn (f s).node)
 fills {σ} {W} {f} {h} ι s b8 p i e k =
     cond_both (ltb i 31) (phase.Fill p (i + 1)) (part_next p) (λ ph. Stepped σ W f h s (put W.cells (part_node p (f s)) i (fill_word σ.fan (f s) p i)) (in_phase (f s) ph) W.count (GoneOn (f s).node))
-    (λ b.
-    let b' = ltb-true i 31 b in
-    filled_to ι s b8 p i e k (phase.Fill p (i + 1)) refl (mine_f ι s b8 p i e k) (owes_f ι s b8 p i e k) (
-      doing_f ι s b8 p i e k (phase.Fill p (i + 1)),
-      hold_f ι s b8 p i e k (phase.Fill p (i + 1)),
-      now_f ι s b8 p i e k,
-      taken_f ι s b8 p i e k (phase.Fill p (i + 1)),
-      filled_in σ.fan (put W.cells (part_node p (f s)) i (fill_word σ.fan (f s) p i)) (f s) (done_in p (i + 1)) (phase.Fill p (i + 1)) (step_filled ι s b8 p i e k),
-      omega (arith, k.5),
-      omega arith,
-      again p k.7,
-    ))
+    (λ b. let b' = ltb-true i 31 b in to_fill ι s b8 p i e k p (i + 1) (λ q w a c. c) (omega (arith, k.5)) (omega arith) k.7)
     (λ b. last_fill ι s b8 p i e k (ltb-false i 31 b))
-  where
-    again : (q : Part) → Uses σ.fan (f s) q → Uses σ.fan (in_phase (f s) (phase.Fill q (i + 1))) q
-    again Left u = u
-    again Right u = u
-    again Own u = u

@@ -1,19 +1,18 @@
 -- One call of one seat: what is to be shown of it, and that this gives the invariant after the call. The laws of a call that is no test.
-use Rattle.std.proofs.Common.{◌≡◌, ℕ, ◌+◌, ◌*◌, ◌%◌, ◌<◌, ◌≤◌, Bool, true, false, ◌&&◌, T, ◌≢◌, ◌⊎◌, ◌↔◌, List, ◌∷◌, length, Some, Option, sym, refl, ◌∙◌, inl, inr, arith}
-use Rattle.std.proofs.lemmas.Bool.{cases_eq}
+use Rattle.std.proofs.Common.{◌≡◌, ℕ, ◌+◌, ◌*◌, ◌%◌, ◌<◌, ◌≤◌, false, ◌≢◌, ◌⊎◌, List, ◌∷◌, length, Some, Option, sym, refl, ◌∙◌, inl, inr, arith}
+use Rattle.std.proofs.lemmas.Bool.{cases_eq, and_right}
 use Rattle.tree.specs.Tree as T
 use Rattle.rules.specs.Histories.{Event, History}
 use Rattle.rules.specs.Events.{number, node, ends, stepped, seat_of}
 use Rattle.rules.specs.PlainMap.{plain_map}
-use Rattle.rules.specs.Latches.{holds, place, tests, Disturbed}
+use Rattle.rules.specs.Latches.{holds, place, tests}
 use Rattle.rules.specs.Laws.{FindLaw, PutLaw, TurningLaw, AbandonLaw}
 use Rattle.rules.specs.declared.seat.Phase.{Phase}
-use Rattle.rules.specs.declared.seat.Phase.TheVariants as phase
 use Rattle.rules.specs.declared.seat.Seat.{Seat}
-use Rattle.rules.proofs.Basics.{some_same, no_none}
+use Rattle.rules.proofs.Basics.{fails}
 use Rattle.rules.proofs.Cells.{word, lock}
 use Rattle.rules.proofs.Events.{Untouched, untouched_other}
-use Rattle.rules.proofs.Inv.{Setting, World, Open, holding_in, owed_in, MineIn, Hold, SeatIn, Coded, Inv}
+use Rattle.rules.proofs.Inv.{Setting, World, Open, holding_in, owed_in, MineIn, SeatIn, Coded, Inv}
 use Rattle.rules.proofs.Rely.{Rely, lasts}
 
 abbrev pub holding : Seat → Option ℕ
@@ -25,32 +24,12 @@ owed x = owed_in x.phase x.operation
 abbrev pub Mine : ℕ → Seat → ℕ → Type 0
 Mine fan x q = MineIn fan x.phase x q
 
-hold_odd : {σ : Setting} {W : World} (x : Seat) (q : ℕ) → Some x.node ≡ Some q → Hold σ W x → lock W.cells q % 2 ≡ 1
-hold_odd {W} x q e k = rw (sym (some_same x.node q e)) (omega (arith, k.mine, k.even))
-
-pub holder_odd : (σ : Setting) (W : World) (h : History) (s : ℕ) (ph : Phase) (x : Seat) (q : ℕ) → SeatIn σ W h s ph x → holding_in ph x.node ≡ Some q → lock W.cells q % 2 ≡ 1
-holder_odd σ W h s phase.Idle x q k e = no_none q e
-holder_odd σ W h s phase.Look x q k e = no_none q e
-holder_odd σ W h s (phase.Copy i) x q k e = no_none q e
-holder_odd σ W h s phase.Check x q k e = no_none q e
-holder_odd σ W h s phase.Latch x q k e = no_none q e
-holder_odd σ W h s phase.Take x q k e = hold_odd x q e k.1
-holder_odd σ W h s (phase.Fill p i) x q k e = hold_odd x q e k.1
-holder_odd σ W h s phase.Release x q k e = hold_odd x q e k.1
-holder_odd σ W h s phase.Undo x q k e = hold_odd x q e k.1
-holder_odd σ W h s (phase.End r) x q k e = no_none q e
+-- a seat that holds a latch holds it of a node whose lock word is odd, and may still rise
+pub holder_locks : (σ : Setting) (W : World) (h : History) (s : ℕ) (ph : Phase) (x : Seat) (q : ℕ) → SeatIn σ W h s ph x → holding_in ph x.node ≡ Some q → (lock W.cells q % 2 ≡ 1) × (lock W.cells q + 1 ≤ σ.top)
+holder_locks σ W h s ph x q k e = grind arith
 
 pub holder_mine : (fan : ℕ) (ph : Phase) (x : Seat) (q : ℕ) → holding_in ph x.node ≡ Some q → MineIn fan ph x q
-holder_mine fan phase.Idle x q e = no_none q e
-holder_mine fan phase.Look x q e = no_none q e
-holder_mine fan (phase.Copy i) x q e = no_none q e
-holder_mine fan phase.Check x q e = no_none q e
-holder_mine fan phase.Latch x q e = no_none q e
-holder_mine fan phase.Take x q e = sym (some_same x.node q e)
-holder_mine fan (phase.Fill p i) x q e = inl (sym (some_same x.node q e))
-holder_mine fan phase.Release x q e = inl (sym (some_same x.node q e))
-holder_mine fan phase.Undo x q e = sym (some_same x.node q e)
-holder_mine fan (phase.End r) x q e = no_none q e
+holder_mine fan ph x q e = grind arith
 
 -- a call of seat `s`, which makes the event `e` and leaves the seat `x'`, leads from the world `W` to `W'` as it may
 pub record Good (σ : Setting) (W W' : World) (f : ℕ → Seat) (h : History) (e : Event) (s : ℕ) (x' : Seat) : Type 0 where
@@ -79,61 +58,42 @@ module _ {σ : Setting} {W W' : World} {f : ℕ → Seat} {h : History} {e : Eve
   odd_after : (t q : ℕ) → holds (e ∷ h) t ≡ Some q → lock W'.cells q % 2 ≡ 1
   odd_after t q p =
       elim (cases_eq t s) [
-        | inl z ↦ holder_odd σ W' (e ∷ h) s x'.phase x' q g.mine (sym g.held_now ∙ rw z at p)
+        | inl z ↦ (holder_locks σ W' (e ∷ h) s x'.phase x' q g.mine (sym g.held_now ∙ rw z at p)).0
         | inr d ↦
             (let w : holding (f t) ≡ Some q = sym (held_other t d) ∙ p in
             let same = (g.others t d).own q 0 (holder_mine σ.fan (f t).phase (f t) q w) (omega arith) in
-            rw same (holder_odd σ W h t (f t).phase (f t) q (ι.seats t) w))
+            rw same (holder_locks σ W h t (f t).phase (f t) q (ι.seats t) w).0)
       ]
 
-  pub next : (f' : ℕ → Seat) → f' s ≡ x' → ((t : ℕ) → t ≢ s → f' t ≡ f t) → Inv σ W' f' (e ∷ h)
-  next f' here other =
-      record {
-        nodes = record {
-          room = g.room;
-          below = g.below;
-          latched = λ q o l. elim (g.latched q o l) [
-            | inl z ↦ (s, rw here z)
-            | inr z ↦ (z.0, rw (other z.0 z.1) z.2)
-          ];
-          same = g.same;
-          sound = g.sound;
-          coded = g.coded;
-          answers = g.answers;
-        };
-        seats = λ t. elim (cases_eq t s) [
-          | inl z ↦ rw (z, here) g.mine
-          | inr d ↦ rw (other t d) (lasts (λ z. d (sym z)) odd_after (un t d) (f t).phase (f t) (g.others t d) (ι.seats t))
-        ];
-        held_by = λ t. elim (cases_eq t s) [
-          | inl z ↦ rw (z, here) g.held_now
-          | inr d ↦ rw (other t d) (held_other t d)
-        ];
-        apart = λ a b d q. elim (cases_eq a s) [
-          | inl z ↦ elim (cases_eq b s) [
-            | inl y ↦ absurd (d (y ∙ sym z))
-            | inr y ↦ rw (z, here, other b y) (g.apart b y q)
-          ]
-          | inr z ↦ elim (cases_eq b s) [
-            | inl y ↦ rw (y, here, other a z) (λ u w. g.apart a z q w u)
-            | inr y ↦ rw (other a z, other b y) (ι.apart a b d q)
-          ]
-        ];
-        owes = λ a b d q. elim (cases_eq a s) [
-          | inl z ↦ elim (cases_eq b s) [
-            | inl y ↦ absurd (d (y ∙ sym z))
-            | inr y ↦ rw (z, here, other b y) (g.owes b y q)
-          ]
-          | inr z ↦ elim (cases_eq b s) [
-            | inl y ↦ rw (y, here, other a z) (λ u w. g.owes a z q w u)
-            | inr y ↦ rw (other a z, other b y) (ι.owes a b d q)
-          ]
-        ];
-        sizes = λ t b. elim (cases_eq t s) [
-          | inl z ↦ rw (z, here) (g.size (rw z at b))
-          | inr d ↦ rw (other t d) (ι.sizes t b)
-        ];
-      }
+  module _ (f' : ℕ → Seat) (here : f' s ≡ x') (other : (t : ℕ) → t ≢ s → f' t ≡ f t) where
+    each : (P : ℕ → Seat → Type 0) → P s x' → ((t : ℕ) → t ≢ s → P t (f t)) → (t : ℕ) → P t (f' t)
+    each P mine rest t = elim (cases_eq t s) [ inl z ↦ rw (z, here) mine | inr d ↦ rw (other t d) (rest t d) ]
+
+    -- what holds of `x'` with each other seat, and of the others, holds of any two
+    pairs : (P : Seat → Seat → Type 0) → ((x y : Seat) → P x y → P y x) → ((t : ℕ) → t ≢ s → P x' (f t)) → ((a b : ℕ) → b ≢ a → P (f a) (f b)) → (a b : ℕ) → b ≢ a → P (f' a) (f' b)
+    pairs P turn mine rest = grind arith
+
+    pub next : Inv σ W' f' (e ∷ h)
+    next =
+        record {
+          nodes = record {
+            room = g.room;
+            below = g.below;
+            latched = λ q o l. elim (g.latched q o l) [
+              | inl z ↦ (s, rw here z)
+              | inr z ↦ (z.0, rw (other z.0 z.1) z.2)
+            ];
+            same = g.same;
+            sound = g.sound;
+            coded = g.coded;
+            answers = g.answers;
+          };
+          seats = each (λ t x. SeatIn σ W' (e ∷ h) t x.phase x) g.mine (λ t d. lasts (λ z. d (sym z)) odd_after (un t d) (f t).phase (f t) (g.others t d) (ι.seats t));
+          held_by = each (λ t x. holds (e ∷ h) t ≡ holding x) g.held_now held_other;
+          apart = pairs (λ x y. (q : ℕ) → Mine σ.fan x q → Mine σ.fan y q → ⊥) (λ x y p q a b. p q b a) g.apart ι.apart;
+          owes = pairs (λ x y. (q : ℕ) → owed x ≡ Some q → owed y ≡ Some q → ⊥) (λ x y p q a b. p q b a) g.owes ι.owes;
+          sizes = each (λ t x. t < 8 → length x.copy ≡ 32) g.size (λ t _. ι.sizes t);
+        }
 
 -- the laws of one event, and those of them that speak of steps
 abbrev pub LawsAt : (m₀ : ℕ → Option ℕ) → History → Event → ℕ → Type 0
@@ -145,23 +105,18 @@ StepLaws m₀ h e s = FindLaw m₀ h e s × PutLaw m₀ h e s × TurningLaw h e 
 pub with_abandon : (m₀ : ℕ → Option ℕ) (h : History) (e : Event) (s : ℕ) → StepLaws m₀ h e s → AbandonLaw m₀ h e s → LawsAt m₀ h e s
 with_abandon m₀ h e s l a = (l.0, l.1, l.2, a)
 
-t_left : (a b : Bool) → a ≡ false → T (a && b) → ⊥
-t_left true b e z = (let k : ◌≡◌ {A = ℕ} 0 1 = cc in omega arith)
-t_left false b e z = z
-
-t_right : (a b : Bool) → b ≡ false → T (a && b) → ⊥
-t_right true b e z = rw e at z
-t_right false b e z = z
-
 pub laws_unstepped : (m₀ : ℕ → Option ℕ) → (h : History) (e : Event) (s : ℕ) → stepped e s ≡ false → StepLaws m₀ h e s
-laws_unstepped m₀ h e s z = (λ k b t. absurd (t_left (stepped e s) (ends (number e)) z t), λ k v b t. absurd (t_left (stepped e s) (ends (number e)) z t), λ t. absurd (t_left (stepped e s) (tests (place h s) (node e)) z t))
+laws_unstepped m₀ h e s z = grind arith
+
+pub laws_test : (m₀ : ℕ → Option ℕ) → (h : History) (e : Event) (s : ℕ) → ends (number e) ≡ false → TurningLaw h e s → StepLaws m₀ h e s
+laws_test m₀ h e s a b = (λ k _. fails _ (and_right (stepped e s) (ends (number e)) a), λ k v _. fails _ (and_right (stepped e s) (ends (number e)) a), b)
+
+-- a step that tests nothing
+pub untested : (h : History) (e : Event) (s : ℕ) → tests (place h s) (node e) ≡ false → TurningLaw h e s
+untested h e s b = fails _ (and_right (stepped e s) (tests (place h s) (node e)) b)
 
 pub laws_plain : (m₀ : ℕ → Option ℕ) → (h : History) (e : Event) (s : ℕ) → ends (number e) ≡ false → tests (place h s) (node e) ≡ false → StepLaws m₀ h e s
-laws_plain m₀ h e s a b =
-    (λ k _ t. absurd (t_right (stepped e s) (ends (number e)) a t), λ k v _ t. absurd (t_right (stepped e s) (ends (number e)) a t), λ t. absurd (t_right (stepped e s) (tests (place h s) (node e)) b t))
-
-pub laws_test : (m₀ : ℕ → Option ℕ) → (h : History) (e : Event) (s : ℕ) → ends (number e) ≡ false → (number e ≡ 1) ↔ Disturbed h s (node e) → StepLaws m₀ h e s
-laws_test m₀ h e s a b = (λ k _ t. absurd (t_right (stepped e s) (ends (number e)) a t), λ k v _ t. absurd (t_right (stepped e s) (ends (number e)) a t), λ t. b)
+laws_plain m₀ h e s a b = laws_test m₀ h e s a (untested h e s b)
 
 -- a call that writes cells and leaves the tree
 pub record Writing (σ : Setting) (W : World) (f : ℕ → Seat) (h : History) (e : Event) (s : ℕ) (m' : List ℕ) (c' : ℕ) : Type 0 where
@@ -177,8 +132,7 @@ abbrev pub with_cells : World → List ℕ → ℕ → World
 with_cells W m c = record { cells = m; count = c; words = W.words; tree = W.tree }
 
 pub tells_same : (o : T.Order) (w w' : ℕ → Option ℕ) (k : ℕ) (p : T.Place) → w' k ≡ w k → T.Tells o w k p → T.Tells o w' k p
-tells_same o w w' k T.free e z = tt
-tells_same o w w' k (T.held y a b) e z = λ i j l. e ∙ z i j l
+tells_same o w w' k p e t = grind arith
 
 module _ {σ : Setting} {W : World} {f : ℕ → Seat} {h : History} (ι : Inv σ W f h) (e : Event) (s : ℕ) (x' : Seat) where
   pub good_write : (m' : List ℕ) (c' : ℕ) → Writing σ W f h e s m' c'
@@ -218,8 +172,7 @@ module _ {σ : Setting} {W : World} {f : ℕ → Seat} {h : History} (ι : Inv �
 
   -- the cells stay too
   pub writing_none : (c' : ℕ) → W.count ≤ c' → 32 * c' ≤ length W.cells → Writing σ W f h e s W.cells c'
-  writing_none c' a b =
-      record { len = refl; more = a; fits = b; up = λ q o. omega arith; rise = λ q o z d. absurd (d refl); same = ι.nodes.same; own = λ t d q i _ _. refl }
+  writing_none c' a b = grind arith
 
   pub latched_none : holding x' ≡ holding (f s) → (q : ℕ) → Open W q → lock W.cells q % 2 ≡ 1 → (holding x' ≡ Some q) ⊎ ((t : ℕ) × (t ≢ s) × (holding (f t) ≡ Some q))
   latched_none e q o l =

@@ -1,7 +1,8 @@
 -- The steps of a seat that holds no latch: look, copy, check, a latch step that is lost or worn, and the end.
-use Rattle.std.proofs.Common.{◌≡◌, ℕ, zero, suc, ◌+◌, ◌%◌, ◌<◌, ◌≤◌, Bool, true, false, cond, ◌&&◌, T, eqb, ltb, ◌≢◌, [], ◌∷◌, get_or, Some, None, Option, sym, refl, ap, ◌∙◌, inl, inr, ⊎_elim, arith}
+use Rattle.std.proofs.Common.{◌≡◌, ℕ, zero, suc, ◌+◌, ◌%◌, ◌<◌, ◌≤◌, true, false, cond, eqb, ltb, ◌≢◌, [], ◌∷◌, get_or, Some, None, Option, sym, refl, ap, ◌∙◌, inl, inr, ⊎_elim, arith}
 use Rattle.std.proofs.lemmas.List.{get_or-set_same, get_or-set_other, length-set}
 use Rattle.std.proofs.lemmas.Bool.{cases_eq, cond_both, cond-true, eq-eqb, ne_eqb, eqb-true, eqb-false, ltb-true, ltb-false, lt-ltb}
+use Rattle.std.proofs.lemmas.Option.{none-some}
 use Rattle.tree.specs.Node as N
 use Rattle.tree.specs.Tree as T
 use Rattle.tree.proofs.Stands.{tree_stands}
@@ -10,7 +11,7 @@ use Rattle.rules.specs.Nodes.{level, link, entries, covers, child, found}
 use Rattle.rules.specs.Seats.{in_phase, at_node, with_word}
 use Rattle.rules.specs.Steps.{version_in, version, answered, copy_next, accepts, arrives, stopped}
 use Rattle.rules.specs.Histories.{History, Step}
-use Rattle.rules.specs.Events.{begun, finding, stepped}
+use Rattle.rules.specs.Events.{begun, finding}
 use Rattle.rules.specs.PlainMap.{plain_map}
 use Rattle.rules.specs.Latches.{holds, place, elsewhere, starting, reading, checked, looks, tests, since_look, Disturbed}
 use Rattle.rules.specs.declared.seat.Operation.{Operation}
@@ -22,29 +23,14 @@ use Rattle.rules.specs.declared.seat.Phase.TheVariants as phase
 use Rattle.rules.specs.declared.report.Report.{Report}
 use Rattle.rules.specs.declared.report.Report.TheVariants.{GoneOn, TurnedBack, Ended}
 use Rattle.rules.specs.declared.seat.Seat.{Seat}
-use Rattle.rules.proofs.Basics.{some_same, no_none}
 use Rattle.rules.proofs.Cells.{word, lock}
-use Rattle.rules.proofs.Entries.{row, row_child, found_is}
+use Rattle.rules.proofs.Entries.{row_child}
+use Rattle.rules.proofs.Words.{covers_shown}
 use Rattle.rules.proofs.Events.{answer_of, not_me, place_own, since_own, disturbed_looked, disturbed_before}
-use Rattle.rules.proofs.Inv.{Setting, World, Open, holding_in, post_of, owed_in, Begins, Writes, paid, Paid, Doing, Reading, Hold, SeatIn, Inv}
+use Rattle.rules.proofs.Inv.{Setting, World, Open, holding_in, post_of, owed_in, Begins, Writes, paid, Paid, Doing, Reading, SeatIn, Inv}
 use Rattle.rules.proofs.Rely.{doing_open}
-use Rattle.rules.proofs.Good.{holding, owed, StepLaws, laws_plain, laws_test}
-use Rattle.rules.proofs.Steps.{Stepped, quiet_gone, quiet_turned, quiet_answered, quiet_ended, holds_quiet, reading_in, Seen, odd_now, doing_quiet, doing_in, reading_own, stepped_calm, seen}
-
-hold_low : {σ : Setting} {W : World} (x : Seat) (q : ℕ) → Some x.node ≡ Some q → Hold σ W x → lock W.cells q + 1 ≤ σ.top
-hold_low {W} x q e k = rw (sym (some_same x.node q e)) (omega (arith, k.mine, k.low))
-
-holder_low : (σ : Setting) (W : World) (h : History) (s : ℕ) (ph : Phase) (x : Seat) (q : ℕ) → SeatIn σ W h s ph x → holding_in ph x.node ≡ Some q → lock W.cells q + 1 ≤ σ.top
-holder_low σ W h s phase.Idle x q k e = no_none q e
-holder_low σ W h s phase.Look x q k e = no_none q e
-holder_low σ W h s (phase.Copy i) x q k e = no_none q e
-holder_low σ W h s phase.Check x q k e = no_none q e
-holder_low σ W h s phase.Latch x q k e = no_none q e
-holder_low σ W h s phase.Take x q k e = hold_low x q e k.1
-holder_low σ W h s (phase.Fill p i) x q k e = hold_low x q e k.1
-holder_low σ W h s phase.Release x q k e = hold_low x q e k.1
-holder_low σ W h s phase.Undo x q k e = hold_low x q e k.1
-holder_low σ W h s (phase.End r) x q k e = no_none q e
+use Rattle.rules.proofs.Good.{holding, owed, StepLaws, holder_locks, laws_plain, laws_test}
+use Rattle.rules.proofs.Steps.{Stepped, quiet_gone, quiet_turned, quiet_answered, quiet_ended, holds_quiet, reading_in, Seen, odd_now, doing_quiet, doing_in, reading_own, stepped_calm, seen, leaf_found}
 
 module _ {σ : Setting} {W : World} {f : ℕ → Seat} {h : History} (ι : Inv σ W f h) (s : ℕ) (b8 : s < 8) where
   free : (ph : Phase) → (f s).phase ≡ ph → ((n : ℕ) → holding_in ph n ≡ None) → holding (f s) ≡ None
@@ -55,7 +41,7 @@ module _ {σ : Setting} {W : World} {f : ℕ → Seat} {h : History} (ι : Inv �
 
   -- who holds a latch
   latcher : (q : ℕ) → Open W q → lock W.cells q % 2 ≡ 1 → (t : ℕ) × (holds h t ≡ Some q) × (lock W.cells q + 1 ≤ σ.top)
-  latcher q o l = let t = ι.nodes.latched q o l in (t.0, ι.held_by t.0 ∙ t.1, holder_low σ W h t.0 (f t.0).phase (f t.0) q (ι.seats t.0) t.1)
+  latcher q o l = let t = ι.nodes.latched q o l in (t.0, ι.held_by t.0 ∙ t.1, (holder_locks σ W h t.0 (f t.0).phase (f t.0) q (ι.seats t.0) t.1).1)
 
   pub look : (f s).phase ≡ phase.Look → SeatIn σ W h s phase.Look (f s) → (w : ℕ) → w ≡ lock W.cells (f s).node
       → Stepped σ W f h s W.cells (with_word (f s) 0 (version_in w) (phase.Copy 1)) W.count (GoneOn (f s).node)
@@ -71,7 +57,7 @@ module _ {σ : Setting} {W : World} {f : ℕ → Seat} {h : History} (ι : Inv �
       let one : since_look (ev ∷ h) s ≡ 1 = since_own h s r refl ∙ cond-true (looks (place h s) 0 n) _ _ k.1 in
       let seen_n = doing_open k.0 in
       let none : holding x ≡ None = free phase.Look e (λ _. refl) in
-      stepped_calm ι s b8 x' r (quiet_gone n) none refl (λ q z. z) (λ d z. sym (owing phase.Look e) ∙ z) (
+      stepped_calm ι s b8 x' r (quiet_gone n) (sym none) (λ q z. absurd z) (λ d z. sym (owing phase.Look e) ∙ z) (
         record { seated = k.0.seated; begins = doing_quiet ι s b8 r (quiet_gone n) x k.0 },
         record {
           even = rw vs (omega arith);
@@ -135,12 +121,12 @@ module _ {σ : Setting} {W : World} {f : ℕ → Seat} {h : History} (ι : Inv �
       cond_both (ltb i 31) (phase.Copy (i + 1)) phase.Check (λ ph. Stepped σ W f h s W.cells (with_word x i w ph) W.count r)
       (λ b.
       let b' = ltb-true i 31 b in
-      stepped_calm ι s b8 (with_word x i w (phase.Copy (i + 1))) r (quiet_gone n) none refl (λ q z. z) (λ q z. sym (owing (phase.Copy i) e) ∙ z)
+      stepped_calm ι s b8 (with_word x i w (phase.Copy (i + 1))) r (quiet_gone n) (sym none) (λ q z. absurd z) (λ q z. sym (owing (phase.Copy i) e) ∙ z)
       (d (phase.Copy (i + 1)), rd (phase.Copy (i + 1)), omega arith, (i, omega arith, now ∙ rw pl (cond-true (ltb kk 31) _ _ (lt-ltb kk 31 (omega arith)) ∙ ap reading (omega arith)))) l laws)
       (λ b.
       let b' = ltb-false i 31 b in
       let i31 : i + 1 ≡ 32 = omega arith in
-      stepped_calm ι s b8 (with_word x i w phase.Check) r (quiet_gone n) none refl (λ q z. z) (λ q z. sym (owing (phase.Copy i) e) ∙ z)
+      stepped_calm ι s b8 (with_word x i w phase.Check) r (quiet_gone n) (sym none) (λ q z. absurd z) (λ q z. sym (owing (phase.Copy i) e) ∙ z)
       (d phase.Check, rw i31 at (rd phase.Check), now ∙ rw pl (cond-true (ltb kk 31) _ _ (lt-ltb kk 31 (omega arith)) ∙ ap reading (omega arith))) l laws)
 
   -- a turned-back test
@@ -152,10 +138,10 @@ module _ {σ : Setting} {W : World} {f : ℕ → Seat} {h : History} (ι : Inv �
       let r = TurnedBack n in
       let ev = answer_of (Step s) r in
       let now : place (ev ∷ h) s ≡ starting = place_own h s r refl in
-      stepped_calm ι s b8 (in_phase x phase.Look) r (quiet_turned n) (free ph e hz) refl (λ q y. y) (λ q y. sym (owing ph e) ∙ oz ∙ y)
+      stepped_calm ι s b8 (in_phase x phase.Look) r (quiet_turned n) (sym (free ph e hz)) (λ q y. absurd y) (λ q y. sym (owing ph e) ∙ oz ∙ y)
       (doing_in ι s b8 r (quiet_turned n) x phase.Look d, rw now refl, rw now refl)
       (ι.sizes s b8)
-      (laws_test σ.start h ev s refl (λ _. z, λ _. refl))
+      (laws_test σ.start h ev s refl (λ _. (λ _. z, λ _. refl)))
 
   -- a check that is passed
   module _ (e : (f s).phase ≡ phase.Check) (k : SeatIn σ W h s phase.Check (f s)) (l : lock W.cells (f s).node ≡ version (f s)) where
@@ -175,10 +161,10 @@ module _ {σ : Setting} {W : World} {f : ℕ → Seat} {h : History} (ι : Inv �
     after_check = place_own h s (GoneOn (f s).node) refl ∙ rw k.2 refl
 
     passed_laws : StepLaws σ.start h (answer_of (Step s) (GoneOn (f s).node)) s
-    passed_laws = laws_test σ.start h (answer_of (Step s) (GoneOn (f s).node)) s refl (λ z. absurd (omega arith), λ d. absurd (calm_now d))
+    passed_laws = laws_test σ.start h (answer_of (Step s) (GoneOn (f s).node)) s refl (λ _. (λ z. absurd (omega arith), λ d. absurd (calm_now d)))
 
     covers_is : covers σ.order.before (f s).copy (f s).key ≡ N.covers σ.order.before looked_at.node_is (f s).key
-    covers_is = rw (looked_at.shown.link_is, looked_at.shown.high_is) refl
+    covers_is = covers_shown σ.order.before (f s).copy looked_at.node_is (f s).key looked_at.shown
 
     goes_on : T.GoesOn σ.order W.tree looked_at.node_is looked_at.from looked_at.to (post_of (f s).operation) (f s).key (f s).aim
     goes_on = (tree_stands σ.order).seats_go_on W.tree (f s).node looked_at.node_is looked_at.from looked_at.to (post_of (f s).operation) (f s).key (f s).aim
@@ -193,7 +179,7 @@ module _ {σ : Setting} {W : World} {f : ℕ → Seat} {h : History} (ι : Inv �
     moves p d z =
         let x = f s in
         let r = GoneOn x.node in
-        stepped_calm ι s b8 (at_node x p) r (quiet_gone x.node) none_held refl (λ q y. y) (λ q y. sym (owing phase.Check e) ∙ y) (
+        stepped_calm ι s b8 (at_node x p) r (quiet_gone x.node) (sym none_held) (λ q y. absurd y) (λ q y. sym (owing phase.Check e) ∙ y) (
           record { seated = z; begins = doing_quiet ι s b8 r (quiet_gone x.node) x k.0 },
           rw (after_check, ne_eqb p x.node d) refl,
           rw after_check (ne_eqb p x.node d),
@@ -212,7 +198,7 @@ module _ {σ : Setting} {W : World} {f : ℕ → Seat} {h : History} (ι : Inv �
         rw looked_at.shown.link_is (moves y.link d (goes_on.right c'))
 
     other_level : (y : N.Node) (v lo a b : ℕ) (p : T.Place) → y.level ≡ suc v → p ≡ T.held y a b → T.Is v lo p → ⊥
-    other_level y v lo a b p z q i = let j : T.Is v lo (T.held y a b) = rw q at i in omega (arith, j.0)
+    other_level y v lo a b p z q i = grind arith
 
     not_child : (v : ℕ) → looked_at.node_is.level ≡ v → (f s).aim < v → N.child σ.order.before looked_at.node_is.entries (f s).key ≢ (f s).node
     not_child zero z b c = omega arith
@@ -240,7 +226,7 @@ module _ {σ : Setting} {W : World} {f : ℕ → Seat} {h : History} (ι : Inv �
       to_latch w =
           let x = f s in
           let r = GoneOn x.node in
-          stepped_calm ι s b8 (in_phase x phase.Latch) r (quiet_gone x.node) none_held refl (λ q y. y) (λ q y. sym (owing phase.Check e) ∙ y) (
+          stepped_calm ι s b8 (in_phase x phase.Latch) r (quiet_gone x.node) (sym none_held) (λ q y. absurd y) (λ q y. sym (owing phase.Check e) ∙ y) (
             doing_in ι s b8 r (quiet_gone x.node) x phase.Latch k.0,
             reading_in x 32 phase.Latch (reading_own ι s b8 r (quiet_gone x.node) (rw k.2 refl) x 32 k.1),
             after_check,
@@ -251,23 +237,17 @@ module _ {σ : Setting} {W : World} {f : ℕ → Seat} {h : History} (ι : Inv �
           (ι.sizes s b8) passed_laws
 
       answer_is : (f s).aim ≡ 0 → plain_map σ.start h (f s).key ≡ found σ.order.before (f s).key (entries (f s).copy)
-      answer_is z =
-          let y = looked_at.node_is in
-          let y0 : y.level ≡ 0 = arrived.0 ∙ z in
-          let leaf : T.Leaf σ.order looked_at.from looked_at.to (row (entries (f s).copy)) = rw looked_at.shown.row_is (sound_here.leaf y0) in
-          let at : T.At σ.order (f s).key 0 (W.tree (f s).node) = rw z at k.0.seated.at in
-          (tree_stands σ.order).leaf_answers W.tree (plain_map σ.start h) (f s).node y looked_at.from looked_at.to (f s).key ι.nodes.sound ι.nodes.answers looked_at.at_is k.0.seated.key at y0 (sym covers_is ∙ c)
-          ∙ rw (sym looked_at.shown.row_is) (sym (found_is σ.order (f s).key looked_at.from looked_at.to (entries (f s).copy) k.0.seated.key leaf))
+      answer_is z = leaf_found ι s b8 (f s) looked_at k.0.seated.key (rw z at k.0.seated.at) (arrived.0 ∙ z) c
 
       find_laws : (o : Option ℕ) → begun h s ≡ finding (f s).key → plain_map σ.start h (f s).key ≡ o → StepLaws σ.start h (answer_of (Step s) (answered (f s).node o)) s
       find_laws None g p = (
         λ q z _. inr (refl, (let kq : (f s).key ≡ q = cc in rw (sym kq) p)),
-        λ q v z _. absurd (let y : ◌≡◌ {A = ℕ} 0 1 = cc in omega arith),
+        λ q v z _. cc,
         λ _. (λ z. absurd (omega arith), λ d. absurd (calm_now d)),
       )
       find_laws (Some v) g p = (
         λ q z _. inl (refl, (let kq : (f s).key ≡ q = cc in rw (sym kq) p)),
-        λ q v z _. absurd (let y : ◌≡◌ {A = ℕ} 0 1 = cc in omega arith),
+        λ q v z _. cc,
         λ _. (λ z. absurd (omega arith), λ d. absurd (calm_now d)),
       )
 
@@ -278,7 +258,7 @@ module _ {σ : Setting} {W : World} {f : ℕ → Seat} {h : History} (ι : Inv �
           let r = answered x.node o in
           let bg : Begins σ.start h s operation.Find x.key = rw z at k.0.begins in
           let am : T.Aims σ.order W.tree None x.key x.aim = rw z at k.0.seated.aims in
-          stepped_calm ι s b8 (in_phase x phase.Idle) r (quiet_answered x.node o) none_held refl (λ q y. y) (λ q y. no_none q y) tt (ι.sizes s b8)
+          stepped_calm ι s b8 (in_phase x phase.Idle) r (quiet_answered x.node o) (sym none_held) (λ q y. absurd y) (λ q y. absurd (none-some q y)) tt (ι.sizes s b8)
           (find_laws o bg.0 (answer_is am))
       finds (operation.Put v) z = to_latch (rw z tt)
       finds (operation.Post m d) z = to_latch (rw z tt)
@@ -315,36 +295,23 @@ module _ {σ : Setting} {W : World} {f : ℕ → Seat} {h : History} (ι : Inv �
       let r = GoneOn n in
       let ev = answer_of (Step s) r in
       let now : place (ev ∷ h) s ≡ elsewhere = place_own h s r refl ∙ rw (k.2, eq-eqb n n refl) refl in
-      stepped_calm ι s b8 (in_phase x (phase.End (stopped x.operation outcome.Worn))) r (quiet_gone n) (free phase.Latch e (λ _. refl)) refl (λ q y. y) (λ q y. no_none q y)
+      stepped_calm ι s b8 (in_phase x (phase.End (stopped x.operation outcome.Worn))) r (quiet_gone n) (sym (free phase.Latch e (λ _. refl))) (λ q y. absurd y) (λ q y. absurd (none-some q y))
       (stopped_paid x.operation outcome.Worn x.key (ev ∷ h) refl k.5 (doing_quiet ι s b8 r (quiet_gone n) x k.0), rw now refl)
       (ι.sizes s b8)
-      (laws_test σ.start h ev s refl (
+      (laws_test σ.start h ev s refl (λ _. (
         λ z. absurd (omega arith),
         λ d.
             ⊎_elim (λ l. absurd (k.1.calm l d)) (λ l. absurd (omega (arith, (k.1.loud l).1))) (cases_eq (lock W.cells n) (version x)),
-      ))
+      )))
 
   no_find : (o : Outcome) (k : ℕ) {A : Type 0} → Paid σ.start h s o → begun h s ≡ finding k → A
-  no_find o k p b = let g = p.0.2 in absurd (let y : ◌≡◌ {A = ℕ} 0 1 = cc in omega arith)
-
-  no_test : (a b : Bool) → b ≡ false → T (a && b) → ⊥
-  no_test true b e z = rw e at z
-  no_test false b e z = z
+  no_find o k p b = let g = p.0.2 in cc
 
   end_laws : (o : Outcome) (n : ℕ) → Paid σ.start h s o → tests (place h s) n ≡ false → StepLaws σ.start h (answer_of (Step s) (Ended n o)) s
-  end_laws outcome.Stored n p z =
-      (λ k b _. no_find outcome.Stored k p b, λ k v b _. inl (inl refl, p.1), λ t. absurd (no_test (stepped (answer_of (Step s) (Ended n outcome.Stored)) s) (tests (place h s) n) z t))
-  end_laws (outcome.Replaced w) n p z =
-      (λ k b _. no_find (outcome.Replaced w) k p b, λ k v b _. inr (inl (refl, p.1)), λ t. absurd (no_test (stepped (answer_of (Step s) (Ended n (outcome.Replaced w))) s) (tests (place h s) n) z t))
-  end_laws outcome.Untold n p z =
-      (λ k b _. no_find outcome.Untold k p b, λ k v b _. inl (inr refl, p.1), λ t. absurd (no_test (stepped (answer_of (Step s) (Ended n outcome.Untold)) s) (tests (place h s) n) z t))
-  end_laws outcome.Full n p z =
-      (λ k b _. no_find outcome.Full k p b, λ k v b _. inr (inr (inl refl, p.1)), λ t. absurd (no_test (stepped (answer_of (Step s) (Ended n outcome.Full)) s) (tests (place h s) n) z t))
-  end_laws outcome.Worn n p z =
-      (λ k b _. no_find outcome.Worn k p b, λ k v b _. inr (inr (inr refl, p.1)), λ t. absurd (no_test (stepped (answer_of (Step s) (Ended n outcome.Worn)) s) (tests (place h s) n) z t))
+  end_laws o n p z = grind arith
 
   pub end : (o : Outcome) → (f s).phase ≡ phase.End o → SeatIn σ W h s (phase.End o) (f s)
       → Stepped σ W f h s W.cells (in_phase (f s) phase.Idle) W.count (Ended (f s).node o)
   end o e k =
-      stepped_calm ι s b8 (in_phase (f s) phase.Idle) (Ended (f s).node o) (quiet_ended (f s).node o) (free (phase.End o) e (λ _. refl)) refl (λ q y. y) (λ q y. no_none q y)
+      stepped_calm ι s b8 (in_phase (f s) phase.Idle) (Ended (f s).node o) (quiet_ended (f s).node o) (sym (free (phase.End o) e (λ _. refl))) (λ q y. absurd y) (λ q y. absurd (none-some q y))
       tt (ι.sizes s b8) (end_laws o (f s).node k.0 k.1)

@@ -1,6 +1,8 @@
 -- A release, whatever update of the tree it makes: the written nodes become content, and the other seats' facts last.
-use Rattle.std.proofs.Common.{◌≡◌, ℕ, ◌%◌, ◌<◌, Bool, true, false, cond, ◌&&◌, ◌||◌, eqb, ◌≢◌, ◌⊎◌, List, ◌∷◌, length, Some, None, Option, sym, refl, ap, ◌∙◌, inl, inr, ⊎_elim, arith}
-use Rattle.std.proofs.lemmas.Bool.{cases_eq, cases_Bool, cond-true, cond-false, eq-eqb, eqb-true, or_cases, or_left, or_right, and_parts, and_from, true≢false}
+use Rattle.std.proofs.Common.{◌≡◌, ℕ, ◌%◌, ◌<◌, Bool, cond, ◌&&◌, ◌||◌, eqb, ◌≢◌, ◌⊎◌, List, ◌∷◌, length, Some, None, Decides, Option, sym, refl, ap, ◌∙◌, inl, inr, ⊎_elim, arith}
+use Rattle.std.proofs.lemmas.Bool.{cases_eq, cases_Bool, cond-true, cond-false, false_from_ne_true}
+use Rattle.std.proofs.lemmas.Bool.Decides.{not_from_Decides}
+use Rattle.std.proofs.lemmas.Option.{same_Some}
 use Rattle.tree.specs.Tree as T
 use Rattle.tree.specs.Updates as U
 use Rattle.tree.proofs.Stands.{tree_stands}
@@ -12,9 +14,7 @@ use Rattle.rules.specs.declared.seat.Part.TheVariants.{Left, Right}
 use Rattle.rules.specs.declared.seat.Phase.TheVariants as phase
 use Rattle.rules.specs.declared.report.Report.{Report}
 use Rattle.rules.specs.declared.seat.Seat.{Seat}
-use Rattle.rules.proofs.Basics.{some_same}
 use Rattle.rules.proofs.Cells.{word, put, lock, length_put}
-use Rattle.rules.proofs.Words.{encodes_same}
 use Rattle.rules.proofs.Events.{answer_of}
 use Rattle.rules.proofs.Inv.{Setting, World, Linked, Open, Fresh, SeatIn, Coded, Inv}
 use Rattle.rules.proofs.Rely.{Rely, doing_open}
@@ -29,44 +29,18 @@ abbrev pub ours : ℕ → Seat → ℕ → Bool
 ours fan x q = eqb q x.node || (splits fan x.draft && (eqb q x.draft.right || (is_root x && eqb q x.draft.left)))
 
 module _ (fan : ℕ) (x : Seat) (q : ℕ) where
-  ours_true : ours fan x q ≡ true → Ours fan x q
-  ours_true e =
-      elim (or_cases (eqb q x.node) _ e) [
-        | inl z ↦ inl (eqb-true q x.node z)
-        | inr z ↦
-            (let p = and_parts (splits fan x.draft) (eqb q x.draft.right || (is_root x && eqb q x.draft.left)) z in
-            inr (
-              p.0,
-              elim (or_cases (eqb q x.draft.right) (is_root x && eqb q x.draft.left) p.1) [
-                | inl y ↦ inl (eqb-true q x.draft.right y)
-                | inr y ↦ (let r = and_parts (is_root x) (eqb q x.draft.left) y in inr (r.0, eqb-true q x.draft.left r.1))
-              ],
-            ))
-      ]
-
-  true_ours : Ours fan x q → ours fan x q ≡ true
-  true_ours (inl z) = or_left (eqb q x.node) (splits fan x.draft && (eqb q x.draft.right || (is_root x && eqb q x.draft.left))) (eq-eqb q x.node z)
-  true_ours (inr (b, inl z)) =
-      or_right (eqb q x.node) (splits fan x.draft && (eqb q x.draft.right || (is_root x && eqb q x.draft.left)))
-      (and_from (splits fan x.draft) (eqb q x.draft.right || (is_root x && eqb q x.draft.left)) b (or_left (eqb q x.draft.right) (is_root x && eqb q x.draft.left) (eq-eqb q x.draft.right z)))
-  true_ours (inr (b, inr (c, z))) =
-      or_right (eqb q x.node) (splits fan x.draft && (eqb q x.draft.right || (is_root x && eqb q x.draft.left)))
-      (and_from (splits fan x.draft) (eqb q x.draft.right || (is_root x && eqb q x.draft.left)) b
-      (or_right (eqb q x.draft.right) (is_root x && eqb q x.draft.left) (and_from (is_root x) (eqb q x.draft.left) c (eq-eqb q x.draft.left z))))
+  decides : Decides (ours fan x q) (Ours fan x q)
+  decides = grind arith
 
   decide : Ours fan x q ⊎ ¬ (Ours fan x q)
-  decide = elim (cases_Bool (ours fan x q)) [ inl e ↦ inl (ours_true e) | inr e ↦ inr (λ z. true≢false (sym (true_ours z) ∙ e)) ]
-
-  false_ours : ¬ (Ours fan x q) → ours fan x q ≡ false
-  false_ours d = elim (cases_Bool (ours fan x q)) [ inl e ↦ absurd (d (ours_true e)) | inr e ↦ e ]
+  decide = elim (cases_Bool (ours fan x q)) [ inl e ↦ inl (decides.0 e) | inr e ↦ inr (not_from_Decides (ours fan x q) decides e) ]
 
 -- what the nodes hold after the release
 abbrev pub written : ℕ → World → Seat → ℕ → ℕ → ℕ
 written fan W x q i = cond (ours fan x q) (word W.cells q i) (W.words q i)
 
 coded_same : (σ : Setting) (W W' : World) (w u : ℕ → ℕ) (p : T.Place) → ((i : ℕ) → 0 < i → i < 32 → u i ≡ w i) → Coded σ W w p → Coded σ W' u p
-coded_same σ W W' w u T.free e z = tt
-coded_same σ W W' w u (T.held y a b) e z = (encodes_same w u y e z.0, z.1)
+coded_same σ W W' w u p e z = grind arith
 
 -- an update of the tree that touches only those nodes, whose words encode it
 pub record Update (σ : Setting) (W : World) (x : Seat) (tree : ℕ → T.Place) (settled : Option ℕ) (told : ℕ → Option ℕ) : Type 0 where
@@ -95,10 +69,10 @@ module _ {σ : Setting} {W : World} {f : ℕ → Seat} {h : History} (ι : Inv �
   fresh_lock q z = elim z.1 [ inl y ↦ rw y (k.4 Right z.0 0 (omega arith) (omega arith)) | inr y ↦ rw y.1 (k.4 Left (z.0, y.0) 0 (omega arith) (omega arith)) ]
 
   words_ours : (q i : ℕ) → Ours σ.fan (f s) q → written σ.fan W (f s) q i ≡ word W.cells q i
-  words_ours q i z = cond-true (ours σ.fan (f s) q) _ _ (true_ours σ.fan (f s) q z)
+  words_ours q i z = cond-true (ours σ.fan (f s) q) _ _ ((decides σ.fan (f s) q).1 z)
 
   words_other : (q i : ℕ) → ¬ (Ours σ.fan (f s) q) → written σ.fan W (f s) q i ≡ W.words q i
-  words_other q i z = cond-false (ours σ.fan (f s) q) _ _ (false_ours σ.fan (f s) q z)
+  words_other q i z = cond-false (ours σ.fan (f s) q) _ _ (false_from_ne_true (ours σ.fan (f s) q) (λ e. z ((decides σ.fan (f s) q).0 e)))
 
   not_fresh : (q : ℕ) → Open W q → q ≢ (f s).node → ¬ (Ours σ.fan (f s) q)
   not_fresh q o d z = ⊎_elim d (λ y. k.3.hidden q y o) z
@@ -148,7 +122,7 @@ module _ {σ : Setting} {W : World} {f : ℕ → Seat} {h : History} (ι : Inv �
           | inr y ↦
               (let d : q ≢ n = λ w. y (inl w) in
               let t = ι.nodes.latched q (rw (u.outside q y) at o) (rw (lk.other q d) at z) in
-              inr (t.0, λ (w : t.0 ≡ s). d (sym (some_same n q (sym own_held ∙ rw w at t.1))), t.1))
+              inr (t.0, λ (w : t.0 ≡ s). d (sym (same_Some n q (sym own_held ∙ rw w at t.1))), t.1))
         ];
         same = λ q o z i b c. lk.rest q i b c ∙ (elim (decide σ.fan (f s) q) [
           | inl y ↦ sym (words_ours q i y)

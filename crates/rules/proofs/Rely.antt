@@ -2,21 +2,21 @@
 use Rattle.std.proofs.Common.{◌≡◌, ℕ, ◌+◌, ◌%◌, ◌<◌, ◌≤◌, ◌≢◌, ◌⊎◌, ◌∷◌, Some, Option, sym, refl, ◌∙◌, inl, inr, ⊎_elim, arith}
 use Rattle.std.proofs.lemmas.Bool.{cases_eq}
 use Rattle.tree.specs.Tree as T
+use Rattle.rules.specs.Seats.{with_draft}
 use Rattle.rules.specs.Steps.{version, part_node}
 use Rattle.rules.specs.Histories.{Event, History}
 use Rattle.rules.specs.Events.{begun}
 use Rattle.rules.specs.PlainMap.{publishings}
 use Rattle.rules.specs.Latches.{holds}
 use Rattle.rules.specs.declared.seat.Part.{Part}
-use Rattle.rules.specs.declared.seat.Part.TheVariants.{Left, Right, Own}
 use Rattle.rules.specs.declared.seat.Phase.{Phase}
 use Rattle.rules.specs.declared.seat.Phase.TheVariants as phase
 use Rattle.rules.specs.declared.seat.Operation.{Operation}
-use Rattle.rules.specs.declared.seat.Operation.TheVariants as operation
+use Rattle.rules.specs.declared.seat.Draft.{Draft}
 use Rattle.rules.specs.declared.seat.Seat.{Seat}
 use Rattle.rules.proofs.Cells.{word, lock}
 use Rattle.rules.proofs.Events.{Untouched, disturbed_later, disturbed_now, disturbed_cases}
-use Rattle.rules.proofs.Inv.{Setting, World, Linked, Open, post_of, owed_in, Fresh, MineIn, Uses, done_in, Filled, Begins, Doing, Reading, Hold, Taken, Unwritten, SeatIn}
+use Rattle.rules.proofs.Inv.{Setting, World, Linked, Open, post_of, owed_in, Fresh, MineIn, Uses, done_in, Filled, Begins, Planned, Doing, Reading, Hold, Taken, Unwritten, SeatIn}
 
 -- what a call of seat `a`, which makes the event `e`, may do in the eyes of a seat `y` in phase `ph`: lock words rise, content changes
 -- only with them, and the nodes that `y` alone may write stay as they are
@@ -32,32 +32,24 @@ pub record Rely (σ : Setting) (W W' : World) (h : History) (e : Event) (a : ℕ
       → T.Seated σ.order W.tree post k aim n → T.Seated σ.order W'.tree post k aim n
 
 at_linked : (σ : Setting) (k aim : ℕ) (p : T.Place) → T.At σ.order k aim p → Linked p
-at_linked σ k aim T.free z = z
-at_linked σ k aim (T.held y a b) z = tt
+at_linked σ k aim p z = grind arith
 
 pub doing_open : {σ : Setting} {W : World} {h : History} {s : ℕ} {x : Seat} → Doing σ W h s x → Open W x.node
 doing_open {σ} {W} {x} d = at_linked σ x.key x.aim (W.tree x.node) d.seated.at
 
 pub begins_same : (m₀ : ℕ → Option ℕ) → (h h' : History) (s : ℕ) (t : Operation) (k : ℕ) → begun h' s ≡ begun h s → publishings m₀ h' s ≡ publishings m₀ h s → Begins m₀ h s t k → Begins m₀ h' s t k
-begins_same m₀ h h' s operation.Find k a b z = (a ∙ z.0, b ∙ z.1)
-begins_same m₀ h h' s (operation.Put v) k a b z = (a ∙ z.0, b ∙ z.1)
-begins_same m₀ h h' s (operation.Post m d) k a b z = ((z.0.0, z.0.1, a ∙ z.0.2), b ∙ z.1, z.2)
+begins_same m₀ h h' s t k a b z = grind arith
 
 pub part_mine : (fan : ℕ) (x : Seat) (p : Part) → Uses fan x p → (part_node p x ≡ x.node) ⊎ Fresh fan x (part_node p x)
-part_mine fan x Left u = inr (u.0, inr (u.1, refl))
-part_mine fan x Right u = inr (u, inl refl)
-part_mine fan x Own u = inl refl
+part_mine fan x p u = grind arith
 
 pub done_small : (p q : Part) (i : ℕ) → i ≤ 32 → done_in p i q ≤ 32
-done_small Left Left i b = b
-done_small Left Right i b = omega arith
-done_small Left Own i b = omega arith
-done_small Right Left i b = omega arith
-done_small Right Right i b = b
-done_small Right Own i b = omega arith
-done_small Own Left i b = omega arith
-done_small Own Right i b = omega arith
-done_small Own Own i b = b
+done_small p q i b = grind arith
+
+-- a seat with a latch, in another phase or with another draft, while its lock word and its node's words stay
+pub hold_as : {σ : Setting} {W W' : World} (x : Seat) (d : Draft) (p : Phase) → lock W'.cells x.node ≡ lock W.cells x.node → ((j : ℕ) → W'.words x.node j ≡ W.words x.node j) → Planned σ d x.operation x.key x.copy
+    → Hold σ W x → Hold σ W' (with_draft x d p)
+hold_as x d p l w q k = grind arith
 
 module _ {σ : Setting} {W W' : World} {h : History} {e : Event} {a s : ℕ} (other : a ≢ s) (odd : (t q : ℕ) → holds (e ∷ h) t ≡ Some q → lock W'.cells q % 2 ≡ 1) (u : Untouched σ.start e h s) {ph : Phase} (y : Seat) (ρ : Rely σ W W' h e a ph y) where
   doing_lasts : owed_in ph y.operation ≡ post_of y.operation → Doing σ W h s y → Doing σ W' (e ∷ h) s y
@@ -88,21 +80,10 @@ module _ {σ : Setting} {W W' : World} {h : History} {e : Event} {a s : ℕ} (ot
       }
 
   hold_lasts : Open W y.node → MineIn σ.fan ph y y.node → Hold σ W y → Hold σ W' y
-  hold_lasts seen m k =
-      let l = ρ.own y.node 0 m (omega arith) in
-      record {
-        even = k.even;
-        mine = l ∙ k.mine;
-        low = k.low;
-        kept = λ j b c. k.kept j b c ∙ sym (ρ.same y.node seen l j);
-        there = k.there;
-        covered = k.covered;
-        planned = k.planned;
-        writes = k.writes;
-      }
+  hold_lasts seen m k = let l = ρ.own y.node 0 m (omega arith) in hold_as y y.draft y.phase l (ρ.same y.node seen l) k.planned k
 
   unwritten_lasts : Open W y.node → MineIn σ.fan ph y y.node → Unwritten σ W y → Unwritten σ W' y
-  unwritten_lasts seen m k = λ j b c. ρ.own y.node j m c ∙ k j b c ∙ sym (ρ.same y.node seen (ρ.own y.node 0 m (omega arith)) j)
+  unwritten_lasts seen m k = grind arith
 
   taken_lasts : ((q : ℕ) → Fresh σ.fan y q → MineIn σ.fan ph y q) → Taken σ W y → Taken σ W' y
   taken_lasts m k =
@@ -114,7 +95,7 @@ module _ {σ : Setting} {W W' : World} {h : History} {e : Event} {a s : ℕ} (ot
       }
 
   filled_lasts : ((q : ℕ) → (q ≡ y.node) ⊎ Fresh σ.fan y q → MineIn σ.fan ph y q) → (d : Part → ℕ) → ((p : Part) → d p ≤ 32) → Filled σ.fan W.cells y d → Filled σ.fan W'.cells y d
-  filled_lasts m d small k p z w b c = ρ.own (part_node p y) w (m (part_node p y) (part_mine σ.fan y p z)) (omega (arith, small p)) ∙ k p z w b c
+  filled_lasts m d small k p z w b c = grind arith
 
 pub lasts : {σ : Setting} {W W' : World} {h : History} {e : Event} {a s : ℕ} → a ≢ s → ((t q : ℕ) → holds (e ∷ h) t ≡ Some q → lock W'.cells q % 2 ≡ 1) → Untouched σ.start e h s
     → (ph : Phase) (y : Seat) → Rely σ W W' h e a ph y → SeatIn σ W h s ph y → SeatIn σ W' (e ∷ h) s ph y

@@ -2,6 +2,7 @@
 use Rattle.std.proofs.Common.{◌≡◌, ℕ, zero, suc, ◌*◌, ◌%◌, ◌^◌, ◌<◌, ◌≤◌, Bool, true, false, cond, ◌&&◌, ◌||◌, eqb, ltb, List, [], ◌∷◌, length, get_or, replicate, None, Ok, Err, Option, Result, sym, refl, ap, ◌∙◌, subst, inl, inr, ⊎_elim, arith}
 use Rattle.std.proofs.lemmas.List.{get_or-set_same, get_or-set_other, length-set, get_or-replicate, get_or_past}
 use Rattle.std.proofs.lemmas.Bool.{cases_eq, cases_lt, cond_both, cond-false, ne_eqb, ltb-false, lt-ltb, or_parts, and_from}
+use Rattle.std.proofs.lemmas.Option.{none-some}
 use Rattle.memory.specs.Meaning.{Bounded}
 use Rattle.tree.specs.Node as N
 use Rattle.tree.specs.Tree as T
@@ -21,7 +22,6 @@ use Rattle.rules.specs.declared.refusal.Refusal.{Refusal}
 use Rattle.rules.specs.declared.report.Report.{Report}
 use Rattle.rules.specs.declared.report.Report.TheVariants.{GoneOn}
 use Rattle.rules.specs.declared.seat.Seat.{Seat}
-use Rattle.rules.proofs.Basics.{no_none}
 use Rattle.rules.proofs.Cells.{word, lock}
 use Rattle.rules.proofs.Inv.{Setting, World, Linked, Open, holding_in, owed_in, MineIn, SeatIn, Coded, Inv}
 use Rattle.rules.proofs.Good.{tells_same}
@@ -33,11 +33,7 @@ length_zeroed (suc n) cs = length-set (zeroed n cs) n 0 ∙ length_zeroed n cs
 
 zeroed_at : (n i : ℕ) (cs : List ℕ) → i < n → n ≤ length cs → get_or (zeroed n cs) i 0 ≡ 0
 zeroed_at zero i cs a b = absurd (omega arith)
-zeroed_at (suc n) i cs a b =
-    elim (cases_eq i n) [
-      | inl z ↦ rw z (get_or-set_same (zeroed n cs) n 0 0 (omega (arith, length_zeroed n cs)))
-      | inr d ↦ get_or-set_other (zeroed n cs) n i 0 0 d ∙ zeroed_at n i cs (omega arith) (omega arith)
-    ]
+zeroed_at (suc n) i cs a b = grind (arith, length_zeroed n cs, zeroed_at n i cs, get_or-set_same (zeroed n cs) n 0 0, get_or-set_other (zeroed n cs) n i 0 0)
 
 word_zeroed : (i : ℕ) (cs : List ℕ) → i < 32 → 32 ≤ length cs → word (zeroed 32 cs) 0 i ≡ 0
 unfolding word
@@ -89,7 +85,7 @@ module _ (σ : Setting) (W : World) where
         seats = λ s. subst (λ (p : Phase). SeatIn σ W [] s p (seat_at (replicate 8 idle) s)) (sym (all_idle s)) tt;
         held_by = λ s. sym (ap (λ (p : Phase). holding_in p (seat_at (replicate 8 idle) s).node) (all_idle s));
         apart = λ s t d q a b. no_mine s q a;
-        owes = λ s t d q a b. no_none q (sym (none_owed s) ∙ a);
+        owes = λ s t d q a b. none-some q (sym (none_owed s) ∙ a);
         sizes = all_long;
       }
 
@@ -136,7 +132,7 @@ sound_start st fan bounds laws =
     P z = z.0 ≡ Ok (GoneOn 0) → Sound empty_map [] z.1
 
     no_err : {A : Type 0} (r : Refusal) → Err r ≡ Ok (GoneOn 0) → A
-    no_err r e = absurd (let y : ◌≡◌ {A = ℕ} 0 1 = cc in omega arith)
+    no_err r e = cc
 
     ranks : (o : T.Order) × (o.before ≡ st.before) × ((k : ℕ) → o.is_key k ≡ (st.iskey k && ltb k (2 ^ 64)))
     ranks = lawful_has_ranks (2 ^ 64) st.iskey st.before laws

@@ -1,14 +1,14 @@
 -- The deeds of a put and of a posting.
 use Rattle.std.proofs.Common.{◌≡◌, ℕ, zero, suc, ◌<◌, ◌≤◌, true, false, cond, eqb, List, [], ◌∷◌, length, Some, None, Option, sym, refl, ap, ◌∙◌, subst, arith}
 use Rattle.std.proofs.lemmas.Bool.{cond-true, cond-false, eq-eqb, ne_eqb, le-ltb, ltb-true}
+use Rattle.std.proofs.lemmas.Option.{none-some}
+use Rattle.std.proofs.lemmas.List.{length-map}
 use Rattle.tree.specs.Node as N
 use Rattle.tree.specs.Tree as T
 use Rattle.tree.specs.Updates as U
 use Rattle.tree.proofs.Stands.{tree_stands}
-use Rattle.tree.proofs.Walks.{good_at}
 use Rattle.rules.specs.Nodes.{level, entries, found, put_in, post_in}
-use Rattle.rules.specs.Seats.{in_phase}
-use Rattle.rules.specs.Steps.{is_root, splits, content, content_by, finished, stored, posts_on}
+use Rattle.rules.specs.Steps.{splits, content, content_by, finished, stored}
 use Rattle.rules.specs.Histories.{History, Step}
 use Rattle.rules.specs.Events.{Begun, begun, putting, sought}
 use Rattle.rules.specs.PlainMap.{with_pair, publishings, plain_map}
@@ -19,20 +19,20 @@ use Rattle.rules.specs.declared.seat.Phase.TheVariants as phase
 use Rattle.rules.specs.declared.report.Report.TheVariants.{Published, Posted}
 use Rattle.rules.specs.declared.seat.Seat.{Seat}
 use Rattle.rules.proofs.Cells.{put}
-use Rattle.rules.proofs.Entries.{row, length_row, row_put, row_post, found_new, found_is}
+use Rattle.rules.proofs.Entries.{as_entry, row, row_put, row_post, found_new}
+use Rattle.rules.proofs.Words.{covers_shown}
 use Rattle.rules.proofs.Events.{answer_of, holds_own, place_own, begun_own, publishings_own}
 use Rattle.rules.proofs.Inv.{Setting, World, post_of, Begins, paid, Paid, SeatIn, Inv}
 use Rattle.rules.proofs.Good.{owed, laws_plain, tells_same}
-use Rattle.rules.proofs.Steps.{Stepped}
-use Rattle.rules.proofs.Deeds.{shown, Deed, releases_by}
+use Rattle.rules.proofs.Steps.{Stepped, leaf_found}
+use Rattle.rules.proofs.Deeds.{after_release, shown, Deed, releases_by}
 
 paid_stored : (o : Option ℕ) → paid (stored o) ≡ o ∷ []
-paid_stored None = refl
-paid_stored (Some v) = refl
+paid_stored o = grind arith
 
 module _ {σ : Setting} {W : World} {f : ℕ → Seat} {h : History} (ι : Inv σ W f h) (s : ℕ) (b8 : s < 8) (e : (f s).phase ≡ phase.Release) (k : SeatIn σ W h s phase.Release (f s)) where
   covers_y : N.covers σ.order.before (shown ι s b8 e k).node_is (f s).key ≡ true
-  covers_y = let sh = (shown ι s b8 e k).shown in rw (sym sh.link_is, sym sh.high_is) k.1.covered
+  covers_y = let y = shown ι s b8 e k in sym (covers_shown σ.order.before (f s).copy y.node_is (f s).key y.shown) ∙ k.1.covered
 
   level_aim : (shown ι s b8 e k).node_is.level ≡ (f s).aim
   level_aim = sym (shown ι s b8 e k).shown.level_is ∙ k.1.there
@@ -41,7 +41,7 @@ module _ {σ : Setting} {W : World} {f : ℕ → Seat} {h : History} (ι : Inv �
   key_k = k.0.seated.key
 
   entries_few : length (entries (f s).copy) ≤ σ.fan
-  entries_few = let sh = shown ι s b8 e k in omega (arith, sh.few, length_row (entries (f s).copy), ap length sh.shown.row_is)
+  entries_few = let sh = shown ι s b8 e k in omega (arith, sh.few, length-map (entries (f s).copy) as_entry, ap length sh.shown.row_is)
 
   module _ (v : ℕ) (op : (f s).operation ≡ operation.Put v) where
     begins_p : Begins σ.start h s (operation.Put v) (f s).key
@@ -65,18 +65,13 @@ module _ {σ : Setting} {W : World} {f : ℕ → Seat} {h : History} (ι : Inv �
     few_p : length (content σ.order.before (f s)) ≤ suc σ.fan
     few_p =
         let sh = shown ι s b8 e k in
-        omega (arith, sh.few, (tree_stands σ.order).fits.inserted sh.node_is.entries (f s).key v, ap length rows_p, length_row (content σ.order.before (f s)))
+        omega (arith, sh.few, (tree_stands σ.order).fits.inserted sh.node_is.entries (f s).key v, ap length rows_p, length-map (content σ.order.before (f s)) as_entry)
 
     at_0 : T.At σ.order (f s).key 0 (W.tree (f s).node)
     at_0 = rw aim_0 at k.0.seated.at
 
     answer_p : plain_map σ.start h (f s).key ≡ found σ.order.before (f s).key (entries (f s).copy)
-    answer_p =
-        let sh = shown ι s b8 e k in
-        let good = good_at σ.order W.tree (f s).node sh.node_is sh.from sh.to ι.nodes.sound sh.at_is in
-        let leaf : T.Leaf σ.order sh.from sh.to (row (entries (f s).copy)) = rw sh.shown.row_is (good.leaf level_0) in
-        (tree_stands σ.order).leaf_answers W.tree (plain_map σ.start h) (f s).node sh.node_is sh.from sh.to (f s).key ι.nodes.sound ι.nodes.answers sh.at_is key_k at_0 level_0 covers_y
-        ∙ rw (sym sh.shown.row_is) (sym (found_is σ.order (f s).key sh.from sh.to (entries (f s).copy) key_k leaf))
+    answer_p = leaf_found ι s b8 (f s) (shown ι s b8 e k) key_k at_0 level_0 k.1.covered
 
     published : publishings σ.start (answer_of (Step s) (Published (f s).node) ∷ h) s ≡ found σ.order.before (f s).key (entries (f s).copy) ∷ []
     published =
@@ -99,7 +94,7 @@ module _ {σ : Setting} {W : World} {f : ℕ → Seat} {h : History} (ι : Inv �
         }
 
     outcome_p : (f s).draft.outcome ≡ stored (found σ.order.before (f s).key (entries (f s).copy))
-    outcome_p = k.1.planned.outcome_is ∙ ap (λ (t : Operation). finished σ.order.before t (f s).key (entries (f s).copy)) op
+    outcome_p = grind arith
 
     ended_p : Paid σ.start (answer_of (Step s) (Published (f s).node) ∷ h) s (f s).draft.outcome
     ended_p = (
@@ -132,7 +127,7 @@ module _ {σ : Setting} {W : World} {f : ℕ → Seat} {h : History} (ι : Inv �
           grows = λ z g d c i R.
               let K = S.stores_grows W.tree g d c i sh.node_is sh.from sh.to (f s).key v key_k R ι.nodes.sound (rw z at at_0) level_0 covers_y in
               (K.0, K.1 (plain_map σ.start h) (plain_map σ.start (answer_of (Step s) r ∷ h)) takes_p ι.nodes.answers);
-          free = λ t d q a b. let z : ◌≡◌ {A = ℕ} 0 1 = cc in omega arith;
+          free = λ t d q a b. none-some q b;
           gone = holds_own h s r refl;
           now = place_own h s r refl;
           ended = ended_p;
@@ -163,7 +158,7 @@ module _ {σ : Setting} {W : World} {f : ℕ → Seat} {h : History} (ι : Inv �
     few_q : length (content σ.order.before (f s)) ≤ suc σ.fan
     few_q =
         let sh = shown ι s b8 e k in
-        omega (arith, sh.few, (tree_stands σ.order).fits.one_more sh.node_is.entries m d, ap length rows_q, length_row (content σ.order.before (f s)))
+        omega (arith, sh.few, (tree_stands σ.order).fits.one_more sh.node_is.entries m d, ap length rows_q, length-map (content σ.order.before (f s)) as_entry)
 
     at_q : T.At σ.order m (suc pend.0) (W.tree (f s).node)
     at_q = subst (λ (j : ℕ). T.At σ.order j (suc pend.0) (W.tree (f s).node)) begins_q.2 (subst (λ (v : ℕ). T.At σ.order (f s).key v (W.tree (f s).node)) pend.1 k.0.seated.at)
@@ -216,18 +211,10 @@ module _ {σ : Setting} {W : World} {f : ℕ → Seat} {h : History} (ι : Inv �
           laws = laws_plain σ.start h (answer_of (Step s) r) s refl (rw k.2 refl);
         }
 
-  by_operation : (t : Operation) → (f s).operation ≡ t → Stepped σ W f h s (put W.cells (f s).node 0 (f s).draft.freeing)
-      (cond (splits σ.fan (f s).draft) (cond (is_root (f s)) (in_phase (f s) (phase.End (f s).draft.outcome)) (posts_on (f s)))
-      (in_phase (f s) (phase.End (f s).draft.outcome))) W.count
-      (cond (eqb (level (f s).copy) 0) (Published (f s).node) (Posted (f s).node))
+  pub by_operation : (t : Operation) → (f s).operation ≡ t
+      → Stepped σ W f h s (put W.cells (f s).node 0 (f s).draft.freeing) (after_release σ.fan (f s)) W.count (cond (eqb (level (f s).copy) 0) (Published (f s).node) (Posted (f s).node))
   by_operation operation.Find z = absurd (rw z at k.1.writes)
   by_operation (operation.Put v) z =
       rw (eq-eqb (level (f s).copy) 0 (k.1.there ∙ aim_0 v z)) (releases_by ι s b8 e k (Published (f s).node) (put_deed v z))
   by_operation (operation.Post m d) z =
       rw (ne_eqb (level (f s).copy) 0 (λ w. omega (arith, k.1.there, (pend m d z).1))) (releases_by ι s b8 e k (Posted (f s).node) (post_deed m d z))
-
-  pub release : Stepped σ W f h s (put W.cells (f s).node 0 (f s).draft.freeing)
-      (cond (splits σ.fan (f s).draft) (cond (is_root (f s)) (in_phase (f s) (phase.End (f s).draft.outcome)) (posts_on (f s)))
-      (in_phase (f s) (phase.End (f s).draft.outcome))) W.count
-      (cond (eqb (level (f s).copy) 0) (Published (f s).node) (Posted (f s).node))
-  release = by_operation (f s).operation refl

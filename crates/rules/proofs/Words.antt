@@ -1,10 +1,11 @@
 -- The words of a node and its content in the tree: words that encode a content, a copy that shows it, and the words that a fill writes.
-use Rattle.std.proofs.Common.{◌≡◌, ℕ, suc, ◌+◌, ◌-◌, ◌*◌, ◌/◌, ◌<◌, ◌≤◌, List, [], ◌∷◌, length, get_or, take, drop, sym, refl, ap, ◌∙◌, arith, length-drop, get_or-drop}
+use Rattle.std.proofs.Common.{◌≡◌, ℕ, suc, ◌+◌, ◌-◌, ◌*◌, ◌/◌, ◌<◌, ◌≤◌, Bool, List, [], ◌∷◌, length, get_or, take, drop, sym, refl, ap, ◌∙◌, arith, length-drop, get_or-drop}
 use Rattle.std.proofs.lemmas.Bool.Decides.{nat_tests}
+use Rattle.std.proofs.lemmas.List.{length-map, get_or-map}
 use Rattle.tree.specs.Node as N
-use Rattle.rules.specs.Nodes.{entry, level, size, link, high, paired, entries, word_of, node_word}
+use Rattle.rules.specs.Nodes.{entry, level, size, link, high, paired, entries, covers, word_of, node_word}
 use Rattle.rules.specs.declared.seat.Entry.{Entry}
-use Rattle.rules.proofs.Entries.{row, length_row, get_or_row}
+use Rattle.rules.proofs.Entries.{as_entry, row}
 
 pub record Encodes (w : ℕ → ℕ) (y : N.Node) : Type 0 where
   pub level_is : w 1 ≡ y.level
@@ -15,15 +16,7 @@ pub record Encodes (w : ℕ → ℕ) (y : N.Node) : Type 0 where
   pub each : (j i : ℕ) → i ≡ 2 * j → j < length y.entries → N.entry (w (6 + i)) (w (7 + i)) ≡ get_or y.entries j (N.entry 0 0)
 
 pub encodes_same : (w u : ℕ → ℕ) (y : N.Node) → ((i : ℕ) → 0 < i → i < 32 → u i ≡ w i) → Encodes w y → Encodes u y
-encodes_same w u y same e =
-    record {
-      level_is = same 1 (omega arith) (omega arith) ∙ e.level_is;
-      size_is = same 2 (omega arith) (omega arith) ∙ e.size_is;
-      few = e.few;
-      link_is = same 3 (omega arith) (omega arith) ∙ e.link_is;
-      high_is = same 4 (omega arith) (omega arith) ∙ e.high_is;
-      each = λ j i z b. rw (same (6 + i) (omega arith) (omega (arith, e.few)), same (7 + i) (omega arith) (omega (arith, e.few))) (e.each j i z b);
-    }
+encodes_same w u y same e = grind arith
 
 pairs : (ws : List ℕ) (es : List N.Entry) → 2 * length es ≤ length ws
     → ((j i : ℕ) → i ≡ 2 * j → j < length es → N.entry (get_or ws i 0) (get_or ws (suc i) 0) ≡ get_or es j (N.entry 0 0)) → row (take (length es) (paired ws)) ≡ es
@@ -41,6 +34,9 @@ pub record Shows (ws : List ℕ) (y : N.Node) : Type 0 where
   pub link_is : link ws ≡ y.link
   pub high_is : high ws ≡ y.high
   pub row_is : row (entries ws) ≡ y.entries
+
+pub covers_shown : (before : ℕ → ℕ → Bool) (ws : List ℕ) (y : N.Node) (k : ℕ) → Shows ws y → covers before ws k ≡ N.covers before y k
+covers_shown before ws y k e = rw (e.link_is, e.high_is) refl
 
 pub shows : (ws : List ℕ) (y : N.Node) → length ws ≡ 32 → Encodes (λ i. get_or ws i 0) y → Shows ws y
 shows ws y l e =
@@ -66,14 +62,14 @@ pub encodes : (l a h : ℕ) (es : List Entry) → length es ≤ 13 → Encodes (
 encodes l a h es b =
     record {
       level_is = refl;
-      size_is = sym (length_row es);
-      few = rw length_row b;
+      size_is = sym (length-map es as_entry);
+      few = rw length-map b;
       link_is = refl;
       high_is = refl;
       each = λ j i z c.
           let p : (6 + i - 6) / 2 ≡ j = omega arith in
           let q : (7 + i - 6) / 2 ≡ j = omega arith in
-          rw (p, q, word_key l (length es) a h (get_or es j (entry 0 0)) i j z, word_value l (length es) a h (get_or es j (entry 0 0)) i j z) (sym (get_or_row es j));
+          rw (p, q, word_key l (length es) a h (get_or es j (entry 0 0)) i j z, word_value l (length es) a h (get_or es j (entry 0 0)) i j z) (sym (get_or-map as_entry es j (entry 0 0) (N.entry 0 0) (rw length-map at c)));
     }
 
 pub encodes_as : (l a h : ℕ) (es : List Entry) (y : N.Node) → length es ≤ 13 → l ≡ y.level → a ≡ y.link → h ≡ y.high → row es ≡ y.entries → Encodes (node_word l a h es) y

@@ -1,7 +1,8 @@
 -- The steps of a seat with a latch that leave the content of the tree: the latch that is won, take and undo.
-use Rattle.std.proofs.Common.{◌≡◌, ℕ, ◌+◌, ◌*◌, ◌%◌, ◌<◌, ◌≤◌, Bool, true, false, cond, ◌≢◌, ◌⊎◌, List, ◌∷◌, length, drop, Some, None, sym, refl, ap, ◌∙◌, inl, inr, ⊎_elim, arith}
+use Rattle.std.proofs.Common.{◌≡◌, ℕ, ◌+◌, ◌*◌, ◌%◌, ◌<◌, ◌≤◌, false, cond, ◌≢◌, ◌⊎◌, List, ◌∷◌, length, drop, Some, None, sym, refl, ap, ◌∙◌, inl, inr, ⊎_elim, arith}
 use lib.Seq.{take-append_seam}
 use Rattle.std.proofs.lemmas.Bool.{cases_eq, cond_both, eq-eqb}
+use Rattle.std.proofs.lemmas.Option.{none-some, same_Some}
 use Rattle.rules.specs.Seats.{in_phase, with_draft}
 use Rattle.rules.specs.Steps.{version, is_root, splits, stopped, content, draft_of, with_nodes, needed}
 use Rattle.rules.specs.Histories.{History, Step}
@@ -13,40 +14,26 @@ use Rattle.rules.specs.declared.seat.Phase.{Phase}
 use Rattle.rules.specs.declared.seat.Phase.TheVariants as phase
 use Rattle.rules.specs.declared.report.Report.TheVariants.{GoneOn, Latched, Unchanged}
 use Rattle.rules.specs.declared.seat.Seat.{Seat}
-use Rattle.rules.proofs.Basics.{some_same, no_none, both}
+use Rattle.rules.proofs.Basics.{both}
 use Rattle.rules.proofs.Cells.{word, put, lock, word_put, word_put_word, word_put_node, length_put}
 use Rattle.rules.proofs.Events.{answer_of, holds_own, place_own, begun_own, publishings_own}
 use Rattle.rules.proofs.Inv.{Setting, World, Open, post_of, Fresh, MineIn, Uses, first, done_in, Filled, Begins, Planned, Hold, Taken, SeatIn, Inv}
-use Rattle.rules.proofs.Rely.{begins_same, doing_open}
-use Rattle.rules.proofs.Good.{holding, owed, Mine, StepLaws, laws_plain, laws_test, Writing, with_cells, good_write, writing_none, latched_none, good_calm}
-use Rattle.rules.proofs.Steps.{Stepped, quiet_gone, holds_quiet, plain_quiet, hold_in, doing_in, doing_quiet}
+use Rattle.rules.proofs.Rely.{begins_same, doing_open, hold_as}
+use Rattle.rules.proofs.Good.{holding, owed, Mine, StepLaws, laws_plain, laws_test, Writing, with_cells, good_write, writing_none, latched_none}
+use Rattle.rules.proofs.Steps.{Stepped, stepped_as, stepped_calm, quiet_gone, holds_quiet, plain_quiet, doing_in, doing_quiet}
 use Rattle.rules.proofs.Readers.{stopped_paid}
 
 -- nobody writes a linked node with no latch
 pub nobody : (σ : Setting) (W : World) (h : History) (t : ℕ) (ph : Phase) (y : Seat) (q : ℕ) → SeatIn σ W h t ph y → MineIn σ.fan ph y q → Open W q → lock W.cells q % 2 ≡ 0 → ⊥
-nobody σ W h t phase.Idle y q k m o l = m
-nobody σ W h t phase.Look y q k m o l = m
-nobody σ W h t (phase.Copy i) y q k m o l = m
-nobody σ W h t phase.Check y q k m o l = m
-nobody σ W h t phase.Latch y q k m o l = m
-nobody σ W h t phase.Take y q k m o l = omega (arith, k.1.mine, k.1.even, ap (lock W.cells) m)
-nobody σ W h t (phase.Fill p i) y q k m o l = ⊎_elim (λ (z : q ≡ y.node). omega (arith, k.1.mine, k.1.even, ap (lock W.cells) z)) (λ z. k.3.hidden q z o) m
-nobody σ W h t phase.Release y q k m o l = ⊎_elim (λ (z : q ≡ y.node). omega (arith, k.1.mine, k.1.even, ap (lock W.cells) z)) (λ z. k.3.hidden q z o) m
-nobody σ W h t phase.Undo y q k m o l = omega (arith, k.1.mine, k.1.even, ap (lock W.cells) m)
-nobody σ W h t (phase.End r) y q k m o l = m
+nobody σ W h t ph y q k m o l = grind arith
 
 -- a seat's nodes are in use
 pub mine_below : (σ : Setting) (W : World) (h : History) (t : ℕ) (ph : Phase) (y : Seat) (q : ℕ) → ((p : ℕ) → Open W p → p < W.count) → SeatIn σ W h t ph y → MineIn σ.fan ph y q → q < W.count
-mine_below σ W h t phase.Idle y q b k m = absurd m
-mine_below σ W h t phase.Look y q b k m = absurd m
-mine_below σ W h t (phase.Copy i) y q b k m = absurd m
-mine_below σ W h t phase.Check y q b k m = absurd m
-mine_below σ W h t phase.Latch y q b k m = absurd m
 mine_below σ W h t phase.Take y q b k m = rw m (b y.node (doing_open k.0))
 mine_below σ W h t (phase.Fill p i) y q b k m = ⊎_elim (λ (z : q ≡ y.node). rw z (b y.node (doing_open k.0))) (k.3.inside q) m
 mine_below σ W h t phase.Release y q b k m = ⊎_elim (λ (z : q ≡ y.node). rw z (b y.node (doing_open k.0))) (k.3.inside q) m
 mine_below σ W h t phase.Undo y q b k m = rw m (b y.node (doing_open k.0))
-mine_below σ W h t (phase.End r) y q b k m = absurd m
+mine_below σ W h t ph y q b k m = absurd m
 
 pub record SetLock (m m' : List ℕ) (n v : ℕ) : Type 0 where
   pub here : lock m' n ≡ v
@@ -103,7 +90,7 @@ module _ {σ : Setting} {W : World} {f : ℕ → Seat} {h : History} (ι : Inv �
     doing_l x' z = begins_same σ.start h (answer_of (Step s) (Latched (f s).node) ∷ h) s (f s).operation (f s).key (begun_own h s (Latched (f s).node) refl) (publishings_own h s (Latched (f s).node) refl σ.start) k.0.begins
 
     laws_l : StepLaws σ.start h (answer_of (Step s) (Latched (f s).node)) s
-    laws_l = laws_test σ.start h (answer_of (Step s) (Latched (f s).node)) s refl (λ z. absurd (omega arith), λ d. absurd (k.1.calm l d))
+    laws_l = laws_test σ.start h (answer_of (Step s) (Latched (f s).node)) s refl (λ _. (λ z. absurd (omega arith), λ d. absurd (k.1.calm l d)))
 
     latched_l : (q : ℕ) → Open W q → lock (put W.cells (f s).node 0 (version (f s) + 1)) q % 2 ≡ 1 → (Some (f s).node ≡ Some q) ⊎ ((t : ℕ) × (t ≢ s) × (holding (f t) ≡ Some q))
     latched_l q o z =
@@ -112,7 +99,7 @@ module _ {σ : Setting} {W : World} {f : ℕ → Seat} {h : History} (ι : Inv �
           | inr d ↦
               (let t = ι.nodes.latched q o (rw (lk.other q d) at z) in
               let free : holding (f s) ≡ None = rw e refl in
-              inr (t.0, λ (y : t.0 ≡ s). no_none q (sym free ∙ rw y at t.1), t.1))
+              inr (t.0, λ (y : t.0 ≡ s). none-some q (sym free ∙ rw y at t.1), t.1))
         ]
 
     hold_l : (ph : Phase) → Hold σ (with_cells W (put W.cells (f s).node 0 (version (f s) + 1)) W.count) (with_draft (f s) (draft_of σ.order.before σ.fan (f s)) ph)
@@ -146,53 +133,43 @@ module _ {σ : Setting} {W : World} {f : ℕ → Seat} {h : History} (ι : Inv �
         let seated_b = doing_l x refl in
         let owing : (q : ℕ) → post_of x.operation ≡ Some q → owed x ≡ Some q = λ q z. rw e z in
         cond_both (splits σ.fan d) phase.Take (phase.Fill Own 1) (λ ph. Stepped σ W f h s m' (with_draft x d ph) W.count r)
-        (λ z. record {
-          words = W.words;
-          tree = W.tree;
-          good = good_write ι (answer_of (Step s) r) s (with_draft x d phase.Take) m' W.count latching latched_l (λ _. refl) (
-            record { seated = k.0.seated; begins = seated_b },
-            hold_l phase.Take,
-            now_l,
-            (λ j a b. lk.rest n j a b ∙ ι.nodes.same n (doing_open k.0) even_n j a b),
-            z,
-            refl,
-          )
-              held_l
-              (λ t b q y m. not_mine t q m y)
-              (λ t b q y. ι.owes s t b q (owing q y))
-              (λ _. ι.sizes s b8);
-          laws = laws_l;
-        })
-        (λ z. record {
-          words = W.words;
-          tree = W.tree;
-          good = good_write ι (answer_of (Step s) r) s (with_draft x d (phase.Fill Own 1)) m' W.count latching latched_l (λ _. refl) (
-            record { seated = k.0.seated; begins = seated_b },
-            hold_l (phase.Fill Own 1),
-            now_l,
-            record {
-              inside = λ q y. both (splits σ.fan d) y.0 z;
-              hidden = λ q y. both (splits σ.fan d) y.0 z;
-              two = λ y. both (splits σ.fan d) y.0 z;
-              level_is = rw z refl;
-            },
-            nothing_yet z,
-            omega arith,
-            omega arith,
-            tt,
-          )
-              held_l
-              (λ t b q y m. ⊎_elim (not_mine t q m) (λ u. both (splits σ.fan d) u.0 z) y)
-              (λ t b q y. ι.owes s t b q (owing q y))
-              (λ _. ι.sizes s b8);
-          laws = laws_l;
-        })
+        (λ z. stepped_as (good_write ι (answer_of (Step s) r) s (with_draft x d phase.Take) m' W.count latching latched_l (λ _. refl) (
+          record { seated = k.0.seated; begins = seated_b },
+          hold_l phase.Take,
+          now_l,
+          (λ j a b. lk.rest n j a b ∙ ι.nodes.same n (doing_open k.0) even_n j a b),
+          z,
+          refl,
+        )
+        held_l
+        (λ t b q y m. not_mine t q m y)
+        (λ t b q y. ι.owes s t b q (owing q y))
+        (λ _. ι.sizes s b8))
+        laws_l)
+        (λ z. stepped_as (good_write ι (answer_of (Step s) r) s (with_draft x d (phase.Fill Own 1)) m' W.count latching latched_l (λ _. refl) (
+          record { seated = k.0.seated; begins = seated_b },
+          hold_l (phase.Fill Own 1),
+          now_l,
+          record {
+            inside = λ q y. both (splits σ.fan d) y.0 z;
+            hidden = λ q y. both (splits σ.fan d) y.0 z;
+            two = λ y. both (splits σ.fan d) y.0 z;
+            level_is = rw z refl;
+          },
+          nothing_yet z,
+          omega arith,
+          omega arith,
+          tt,
+        )
+        held_l
+        (λ t b q y m. ⊎_elim (not_mine t q m) (λ u. both (splits σ.fan d) u.0 z) y)
+        (λ t b q y. ι.owes s t b q (owing q y))
+        (λ _. ι.sizes s b8))
+        laws_l)
       where
         nothing_yet : splits σ.fan (draft_of σ.order.before σ.fan (f s)) ≡ false
             → Filled σ.fan (put W.cells (f s).node 0 (version (f s) + 1)) (with_draft (f s) (draft_of σ.order.before σ.fan (f s)) (phase.Fill Own 1)) (done_in Own 1)
-        nothing_yet z Left u w a b = both (splits σ.fan (draft_of σ.order.before σ.fan (f s))) u.0 z
-        nothing_yet z Right u w a b = both (splits σ.fan (draft_of σ.order.before σ.fan (f s))) u z
-        nothing_yet z Own u w a b = absurd (omega arith)
+        nothing_yet z p u w a b = grind arith
 
   -- nodes are taken, or there are none
   module _ (e : (f s).phase ≡ phase.Take) (k : SeatIn σ W h s phase.Take (f s)) where
@@ -215,59 +192,27 @@ module _ {σ : Setting} {W : World} {f : ℕ → Seat} {h : History} (ι : Inv �
     gives_up =
         let x = f s in
         let r = GoneOn x.node in
-        record {
-          words = W.words;
-          tree = W.tree;
-          good = good_calm ι (answer_of (Step s) r) s (in_phase x phase.Undo) (sym own_held) mine_t owing_t (plain_quiet h s r (quiet_gone x.node) σ.start)
-              (doing_in ι s b8 r (quiet_gone x.node) x phase.Undo k.0, hold_in x phase.Undo k.1, now_t, k.3)
-              (holds_quiet h s r (quiet_gone x.node) s) (λ _. ι.sizes s b8);
-          laws = laws_t;
-        }
+        stepped_calm ι s b8 (in_phase x phase.Undo) r (quiet_gone x.node) (sym own_held) mine_t owing_t
+        (doing_in ι s b8 r (quiet_gone x.node) x phase.Undo k.0, hold_as x x.draft phase.Undo refl (λ _. refl) k.1.planned k.1, now_t, k.3) (ι.sizes s b8) laws_t
 
     -- taking nodes leaves the entries as drafted
     planned_t : Planned σ (with_nodes (f s) W.count) (f s).operation (f s).key (f s).copy
-    planned_t =
-        let a = k.1.planned in
-        record { frees = a.frees; rows_are = a.rows_are; len_is = a.len_is; left_is = a.left_is; edge_is = a.edge_is; outcome_is = a.outcome_is }
+    planned_t = grind arith
 
     hold_t : (ph : Phase) → Hold σ (with_cells W W.cells (W.count + needed (f s))) (with_draft (f s) (with_nodes (f s) W.count) ph)
-    hold_t ph =
-        let a = k.1 in
-        record { even = a.even; mine = a.mine; low = a.low; kept = a.kept; there = a.there; covered = a.covered; planned = planned_t; writes = a.writes }
-
-    right_in : (b : Bool) (c : ℕ) → (c ≤ cond b (c + 1) c) × (cond b (c + 1) c < c + cond b 2 1)
-    right_in true c = (omega arith, omega arith)
-    right_in false c = (omega arith, omega arith)
-
-    left_in : (b : Bool) (c n : ℕ) → b ≡ true → (cond b c n ≡ c) × (c < c + cond b 2 1) × (cond b c n ≢ cond b (c + 1) c)
-    left_in true c n e = (refl, omega arith, λ z. omega arith)
-    left_in false c n e = both false e refl
+    hold_t ph = hold_as (f s) (with_nodes (f s) W.count) ph refl (λ _. refl) planned_t k.1
 
     fresh_in : (ph : Phase) (q : ℕ) → Fresh σ.fan (with_draft (f s) (with_nodes (f s) W.count) ph) q → (W.count ≤ q) × (q < W.count + needed (f s))
-    fresh_in ph q z =
-        elim z.1 [
-          | inl y ↦ (let b = right_in (is_root (f s)) W.count in (omega arith, omega arith))
-          | inr y ↦ (let b = left_in (is_root (f s)) W.count (f s).node y.0 in (omega arith, omega arith))
-        ]
+    fresh_in ph q z = grind arith
 
     taken_t : (ph : Phase) → Taken σ (with_cells W W.cells (W.count + needed (f s))) (with_draft (f s) (with_nodes (f s) W.count) ph)
-    taken_t ph =
-        record {
-          inside = λ q z. (fresh_in ph q z).1;
-          hidden = λ q z o. omega (arith, (fresh_in ph q z).0, ι.nodes.below q o);
-          two = λ u. (left_in (is_root (f s)) W.count (f s).node u.1).2;
-          level_is = rw (k.4, k.5) refl;
-        }
+    taken_t ph = grind arith
 
     filled_left : Filled σ.fan W.cells (with_draft (f s) (with_nodes (f s) W.count) (phase.Fill Left 0)) (done_in Left 0)
-    filled_left Left u w a b = absurd (omega arith)
-    filled_left Right u w a b = absurd (omega arith)
-    filled_left Own u w a b = absurd (omega arith)
+    filled_left p u w a b = grind arith
 
     filled_right : is_root (f s) ≡ false → Filled σ.fan W.cells (with_draft (f s) (with_nodes (f s) W.count) (phase.Fill Right 0)) (done_in Right 0)
-    filled_right z Left u w a b = both (is_root (f s)) u.1 z
-    filled_right z Right u w a b = absurd (omega arith)
-    filled_right z Own u w a b = absurd (omega arith)
+    filled_right z p u w a b = grind arith
 
     took : 32 * (W.count + needed (f s)) ≤ length W.cells → (p : Part) → first p ≤ 0 → Uses σ.fan (with_draft (f s) (with_nodes (f s) W.count) (phase.Fill p 0)) p
         → Filled σ.fan W.cells (with_draft (f s) (with_nodes (f s) W.count) (phase.Fill p 0)) (done_in p 0)
@@ -278,27 +223,23 @@ module _ {σ : Setting} {W : World} {f : ℕ → Seat} {h : History} (ι : Inv �
         let c' = W.count + needed x in
         let x' = with_draft x (with_nodes x W.count) (phase.Fill p 0) in
         let ev = answer_of (Step s) r in
-        record {
-          words = W.words;
-          tree = W.tree;
-          good = good_write ι ev s x' W.cells c' (writing_none ι ev s x' c' (omega arith) room) (latched_none ι ev s x' (sym own_held)) (plain_quiet h s r (quiet_gone x.node) σ.start) (
-            record { seated = k.0.seated; begins = doing_quiet ι s b8 r (quiet_gone x.node) x k.0 },
-            hold_t (phase.Fill p 0),
-            now_t,
-            taken_t (phase.Fill p 0),
-            filled,
-            low,
-            omega arith,
-            u,
-          )
-              (holds_quiet h s r (quiet_gone x.node) s ∙ ι.held_by s ∙ own_held)
-              (λ t b q y m. ⊎_elim
-              (λ (z : q ≡ x.node). ι.apart s t b q (mine_t q z) m)
-              (λ z. omega (arith, (fresh_in (phase.Fill p 0) q z).0, mine_below σ W h t (f t).phase (f t) q ι.nodes.below (ι.seats t) m)) y)
-              (λ t b q y. ι.owes s t b q (owing_t q y))
-              (λ _. ι.sizes s b8);
-          laws = laws_t;
-        }
+        stepped_as (good_write ι ev s x' W.cells c' (writing_none ι ev s x' c' (omega arith) room) (latched_none ι ev s x' (sym own_held)) (plain_quiet h s r (quiet_gone x.node) σ.start) (
+          record { seated = k.0.seated; begins = doing_quiet ι s b8 r (quiet_gone x.node) x k.0 },
+          hold_t (phase.Fill p 0),
+          now_t,
+          taken_t (phase.Fill p 0),
+          filled,
+          low,
+          omega arith,
+          u,
+        )
+        (holds_quiet h s r (quiet_gone x.node) s ∙ ι.held_by s ∙ own_held)
+        (λ t b q y m. ⊎_elim
+        (λ (z : q ≡ x.node). ι.apart s t b q (mine_t q z) m)
+        (λ z. omega (arith, (fresh_in (phase.Fill p 0) q z).0, mine_below σ W h t (f t).phase (f t) q ι.nodes.below (ι.seats t) m)) y)
+        (λ t b q y. ι.owes s t b q (owing_t q y))
+        (λ _. ι.sizes s b8))
+        laws_t
 
     pub takes_nodes : 32 * (W.count + needed (f s)) ≤ length W.cells
         → Stepped σ W f h s W.cells (with_draft (f s) (with_nodes (f s) W.count) (phase.Fill (cond (is_root (f s)) Left Right) 0)) (W.count + needed (f s)) (GoneOn (f s).node)
@@ -322,35 +263,31 @@ module _ {σ : Setting} {W : World} {f : ℕ → Seat} {h : History} (ι : Inv �
         let lk = set_lock W.cells n v (omega (arith, in_cells n (ι.nodes.below n o_n))) in
         let now : place (ev ∷ h) s ≡ elsewhere = place_own h s r refl ∙ rw k.2 refl in
         let not_n : (t : ℕ) → t ≢ s → (q : ℕ) → Mine σ.fan (f t) q → q ≢ n = λ t d q m z. ι.apart s t d q (rw e z) m in
-        record {
-          words = W.words;
-          tree = W.tree;
-          good = good_write ι ev s (in_phase x (phase.End (stopped x.operation outcome.Full))) m' W.count
-              (record {
-                len = length_put W.cells n 0 v;
-                more = omega arith;
-                fits = ι.nodes.room;
-                up = λ q o. elim (cases_eq q n) [ inl z ↦ rw (z, lk.here) (omega (arith, a.mine, a.planned.frees)) | inr d ↦ omega (arith, lk.other q d) ];
-                rise = λ q o z d. elim (cases_eq q n) [ inl y ↦ absurd (omega (arith, a.mine, a.even, ap (lock W.cells) y)) | inr y ↦ absurd (d (lk.other q y)) ];
-                same = λ q o z i b c. elim (cases_eq q n) [
-                  | inl y ↦ rw y (lk.rest n i b c ∙ k.3 i b c)
-                  | inr d ↦ lk.far q i d c ∙ ι.nodes.same q o (rw (lk.other q d) at z) i b c
-                ];
-                own = λ t d q i m c. lk.far q i (not_n t d q m) c;
-              })
-              (λ q o z.
-              let d : q ≢ n = λ y. (let z' : lock m' n % 2 ≡ 1 = rw y at z in omega (arith, lk.here, a.planned.frees, a.even)) in
-              let t = ι.nodes.latched q o (rw (lk.other q d) at z) in
-              let own : holding x ≡ Some n = rw e refl in
-              inr (t.0, λ (y : t.0 ≡ s). d (sym (some_same n q (sym own ∙ rw y at t.1))), t.1))
-              (λ _. refl) (
-                stopped_paid ι s b8 x.operation outcome.Full x.key (ev ∷ h) refl a.writes
-                    (begins_same σ.start h (ev ∷ h) s x.operation x.key (begun_own h s r refl) (publishings_own h s r refl σ.start) k.0.begins),
-                rw now refl,
-              )
-              (holds_own h s r refl)
-              (λ t b q y m. y)
-              (λ t b q y. no_none q y)
-              (λ _. ι.sizes s b8);
-          laws = laws_plain σ.start h ev s refl (rw k.2 refl);
-        }
+        stepped_as (good_write ι ev s (in_phase x (phase.End (stopped x.operation outcome.Full))) m' W.count
+        (record {
+          len = length_put W.cells n 0 v;
+          more = omega arith;
+          fits = ι.nodes.room;
+          up = λ q o. elim (cases_eq q n) [ inl z ↦ rw (z, lk.here) (omega (arith, a.mine, a.planned.frees)) | inr d ↦ omega (arith, lk.other q d) ];
+          rise = λ q o z d. elim (cases_eq q n) [ inl y ↦ absurd (omega (arith, a.mine, a.even, ap (lock W.cells) y)) | inr y ↦ absurd (d (lk.other q y)) ];
+          same = λ q o z i b c. elim (cases_eq q n) [
+            | inl y ↦ rw y (lk.rest n i b c ∙ k.3 i b c)
+            | inr d ↦ lk.far q i d c ∙ ι.nodes.same q o (rw (lk.other q d) at z) i b c
+          ];
+          own = λ t d q i m c. lk.far q i (not_n t d q m) c;
+        })
+        (λ q o z.
+        let d : q ≢ n = λ y. (let z' : lock m' n % 2 ≡ 1 = rw y at z in omega (arith, lk.here, a.planned.frees, a.even)) in
+        let t = ι.nodes.latched q o (rw (lk.other q d) at z) in
+        let own : holding x ≡ Some n = rw e refl in
+        inr (t.0, λ (y : t.0 ≡ s). d (sym (same_Some n q (sym own ∙ rw y at t.1))), t.1))
+        (λ _. refl) (
+          stopped_paid ι s b8 x.operation outcome.Full x.key (ev ∷ h) refl a.writes
+              (begins_same σ.start h (ev ∷ h) s x.operation x.key (begun_own h s r refl) (publishings_own h s r refl σ.start) k.0.begins),
+          rw now refl,
+        )
+        (holds_own h s r refl)
+        (λ t b q y m. y)
+        (λ t b q y. absurd (none-some q y))
+        (λ _. ι.sizes s b8))
+        (laws_plain σ.start h ev s refl (rw k.2 refl))
