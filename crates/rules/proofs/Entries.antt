@@ -12,6 +12,11 @@ as_entry e = N.entry e.key e.value
 abbrev pub row : List Entry → List N.Entry
 row es = map as_entry es
 
+pub get_or_row : (es : List Entry) (j : ℕ) → get_or (row es) j (N.entry 0 0) ≡ N.entry (get_or es j (entry 0 0)).key (get_or es j (entry 0 0)).value
+get_or_row [] j = refl
+get_or_row (e ∷ es) zero = refl
+get_or_row (e ∷ es) (suc j) = get_or_row es j
+
 pub last_is : (i : ℕ) (es : List Entry) → i < length es → N.last_key (take (suc i) (row es)) ≡ (get_or es i (entry 0 0)).key
 last_is i [] q = absurd (omega arith)
 last_is zero (e ∷ es) q = refl

@@ -1,11 +1,11 @@
 -- The words of a node and its content in the tree: words that encode a content, a copy that shows it, and the words that a fill writes.
 use Rattle.std.proofs.Common.{◌≡◌, ℕ, suc, ◌+◌, ◌-◌, ◌*◌, ◌/◌, ◌<◌, ◌≤◌, Bool, List, [], ◌∷◌, length, get_or, take, drop, sym, refl, ap, ◌∙◌, arith, length-drop, get_or-drop}
 use Rattle.std.proofs.lemmas.Bool.Decides.{nat_tests}
-use Rattle.std.proofs.lemmas.List.{length-map, get_or-map}
+use Rattle.std.proofs.lemmas.List.{length-map}
 use Rattle.tree.specs.Node as N
 use Rattle.rules.specs.Nodes.{entry, level, size, link, high, paired, entries, covers, word_of, node_word}
 use Rattle.rules.specs.declared.seat.Entry.{Entry}
-use Rattle.rules.proofs.Entries.{as_entry, row}
+use Rattle.rules.proofs.Entries.{get_or_row, as_entry, row}
 
 pub record Encodes (w : ℕ → ℕ) (y : N.Node) : Type 0 where
   pub level_is : w 1 ≡ y.level
@@ -69,7 +69,7 @@ encodes l a h es b =
       each = λ j i z c.
           let p : (6 + i - 6) / 2 ≡ j = omega arith in
           let q : (7 + i - 6) / 2 ≡ j = omega arith in
-          rw (p, q, word_key l (length es) a h (get_or es j (entry 0 0)) i j z, word_value l (length es) a h (get_or es j (entry 0 0)) i j z) (sym (get_or-map as_entry es j (entry 0 0) (N.entry 0 0) (rw length-map at c)));
+          rw (p, q, word_key l (length es) a h (get_or es j (entry 0 0)) i j z, word_value l (length es) a h (get_or es j (entry 0 0)) i j z) (sym (get_or_row es j));
     }
 
 pub encodes_as : (l a h : ℕ) (es : List Entry) (y : N.Node) → length es ≤ 13 → l ≡ y.level → a ≡ y.link → h ≡ y.high → row es ≡ y.entries → Encodes (node_word l a h es) y
