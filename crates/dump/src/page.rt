@@ -188,7 +188,9 @@ impl<M: Memory> fmt::Display for Rows<'_, M> {
                     first,
                     end: span.first,
                 };
-                write!(f, "{zeros}{row}")?;
+                // one at a time, as in `image_text`
+                write!(f, "{zeros}")?;
+                write!(f, "{row}")?;
                 first = span.end;
             }
         }
@@ -209,7 +211,11 @@ pub fn image_text(heap: Global, bytes: &mut [u8], width: Width) -> Result<String
     let head = Head::of(&memory, width);
     let rows = Rows(&memory);
     let left = Left(size - head.cells * head.bytes);
-    format!(in heap; "{head}{rows}{left}")
+    // one at a time: written together, each is handed all three, and the compiler reads the memory's width anew for each cell
+    let mut text = format!(in heap; "{head}")?;
+    write!(text, "{rows}")?;
+    write!(text, "{left}")?;
+    Ok(text)
 }
 
 #[cfg(test)]

@@ -69,7 +69,13 @@ impl Memory for ByteMemory<'_> {
     #[tactic(auto, using(crate::proofs::Bytewise::bytes_read))]
     fn read(&self, cell: u64) -> Result<u64, Fault> {
         let at = self.place(cell)?;
-        Ok(load(&self.bytes[at]))
+        let bytes = &self.bytes[at];
+        // of a length that is written out the compiler makes a load, and no call
+        Ok(match self.width {
+            Width::Two => load(&bytes[..2]),
+            Width::Four => load(&bytes[..4]),
+            Width::Eight => load(&bytes[..8]),
+        })
     }
 
     #[tactic(auto, using(crate::proofs::Bytewise::bytes_write_row, crate::proofs::Bytewise::bytes_write_rest))]

@@ -1,10 +1,11 @@
 use Rattle.std.proofs.Common.{rules, ◌≡◌, ◌+◌, ◌-◌, ◌*◌, ◌<◌, ◌≤◌, ◌++◌, min, length, sym, arith}
+use Rattle.std.proofs.Output.{has_written_append}
 use Rattle.std.specs.Fmt.{HasWritten}
 use Rattle.std.specs.List.{between}
 use Rattle.dump.specs.Page.{unless_none, zeros_text, row_text}
 use Rattle.dump.proofs.Texts.{wrote_more, wrote_as, wrote_last, zeros_first, row_first, zeros_end}
 use Rattle.dump.proofs.page.RowsDisplay.fmt.Goals as goal
-use Rattle.dump.proofs.page.RowsDisplay.fmt.Goals.{then-not-all_zero+in_ok-write, else-not-all_zero}
+use Rattle.dump.proofs.page.RowsDisplay.fmt.Goals.{then-not-all_zero+in_ok-write+in_ok-write-2, else-not-all_zero}
 
 pub loop-n-preserved : goal.loop-n-preserved
 loop-n-preserved g c =
@@ -13,11 +14,16 @@ loop-n-preserved g c =
     let below : 32 * c.loop-n.n < length cells = omega arith in
     let end : span.end ≡ min (32 * (c.loop-n.n + 1)) (length cells) = omega arith in
     elim c.if-not-all_zero.branch [
-      | then-not-all_zero+in_ok-write w ↦ record {
+      | then-not-all_zero+in_ok-write+in_ok-write-2 w ↦ record {
         ordered = omega (arith, w.first-is);
         wrote = λ p.
             let t = c.loop-n.invariant.wrote p in
-            let more : HasWritten g.W.Write.write_str_gives c.loop-n.f (unless_none (span.first - c.loop-n.first) (zeros_text c.loop-n.first span.first) ++ row_text span.first (between span.first span.end cells)) c.if-not-all_zero.f = search rules in
+            let gap = unless_none (span.first - c.loop-n.first) (zeros_text c.loop-n.first span.first) in
+            let line = row_text span.first (between span.first span.end cells) in
+            let mid = w.write.new.self in
+            let one : HasWritten g.W.Write.write_str_gives c.loop-n.f gap mid = search rules in
+            let two : HasWritten g.W.Write.write_str_gives mid line c.if-not-all_zero.f = search rules in
+            let more = has_written_append g.W.Write.write_str_gives c.loop-n.f gap mid line c.if-not-all_zero.f one two in
             wrote_more _ _ _ _ _ _ _ _ t more (row_first cells c.loop-n.first c.loop-n.n span.first span.end c.loop-n.invariant.ordered below c.of_row-span.ensures.first end _ w.first-is (sym w.if-not-all_zero.ensures));
       }
       | else-not-all_zero w ↦ record {
