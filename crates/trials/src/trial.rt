@@ -25,26 +25,48 @@ struct Trial<M: Memory, O: Order> {
     fan: u64,
 }
 
-/// What a round draws.
+/// What a round draws: a number each for its call, its key and its value.
 #[derive(Clone, Copy)]
 struct Draw {
-    /// Which call it makes, below 1024.
     call: u64,
-    seat: u64,
     key: u64,
     value: u64,
-    /// How many steps follow it in a burst, at most.
-    most: u64,
+}
+
+impl Draw {
+    /// Which call the round makes, below 1024.
+    fn kind(self) -> u64 {
+        self.call & 1023
+    }
+
+    fn seat(self) -> u64 {
+        seat_of(self.call)
+    }
+
+    /// How many steps follow the call in a burst, at most.
+    fn most(self) -> u64 {
+        if (self.call >> 32) & 3 == 0 {
+            (self.call >> 34) & 255
+        } else {
+            1000
+        }
+    }
 }
 
 impl<M: Memory, O: Order> Trial<M, O> {
-    /// Makes a call, and notes its answer.
-    fn call<F: FnOnce(&mut Index<M, O>) -> Answer>(&mut self, call: F) -> Answer
+    /// Makes a call, and notes its answer: whether that is neither an ending nor a refusal.
+    fn call<F: FnOnce(&mut Index<M, O>) -> Answer>(&mut self, call: F) -> bool
         requires { F.IsAlwaysCallable call }
     {
         let answer = call(&mut self.index);
         self.tally.note(answer);
-        answer
+        matches!(answer, Ok(report) if !report.ends())
+    }
+
+    /// Makes a step.
+    // one place for all steps: the compiler then makes the step there, and passes no answer through memory
+    fn step(&mut self, seat: u64) -> bool {
+        self.call(|index| index.step(seat))
     }
 
     /// The calls that every scenario starts with.
@@ -52,7 +74,7 @@ impl<M: Memory, O: Order> Trial<M, O> {
         let fan = self.fan;
         let _ = self.call(|index| index.begin_find(0, 0));
         let _ = self.call(|index| index.begin_put(7, 0, 0));
-        let _ = self.call(|index| index.step(0));
+        let _ = self.step(0);
         let _ = self.call(|index| index.abandon(8));
         let _ = self.call(|index| index.format(2));
         let _ = self.call(|index| index.format(14));
@@ -63,55 +85,59 @@ impl<M: Memory, O: Order> Trial<M, O> {
     // stays a loop of its own, as in each program that drives a seat: each notes, counts or prints something else of a step
     fn drive(&mut self, seat: u64, most: u64) {
         for _ in 0..most {
-            match self.call(|index| index.step(seat)) {
-                Ok(report) if !report.ends() => {}
-                _ => return,
+            if !self.step(seat) {
+                return;
             }
         }
     }
 
     /// The three draws of a round.
     fn draw(&mut self) -> Draw {
-        let a = self.random.draw();
-        let k = self.random.draw();
-        let v = self.random.draw();
         Draw {
-            call: a & 1023,
-            seat: seat_of(a),
-            key: self.space.key_of(k),
-            value: self.space.value_of(v),
-            most: if (a >> 32) & 3 == 0 {
-                (a >> 34) & 255
-            } else {
-                1000
-            },
+            call: self.random.draw(),
+            key: self.random.draw(),
+            value: self.random.draw(),
         }
+    }
+
+    /// Begins the find of a round.
+    // keys and values are worked out where a round needs them, and few do: worked out in each draw, they take a quarter of a run
+    fn begin_find(&mut self, draw: Draw) -> bool {
+        let key = self.space.key_of(draw.key);
+        self.call(|index| index.begin_find(draw.seat(), key))
+    }
+
+    /// Begins the put of a round.
+    fn begin_put(&mut self, draw: Draw) -> bool {
+        let key = self.space.key_of(draw.key);
+        let value = self.space.value_of(draw.value);
+        self.call(|index| index.begin_put(draw.seat(), key, value))
     }
 
     /// One call, drawn.
     fn mixed(&mut self) {
         let fan = self.fan;
         let draw = self.draw();
-        let _ = self.call(|index| match draw.call {
-            0..=11 => index.begin_find(draw.seat, draw.key),
-            12..=43 => index.begin_put(draw.seat, draw.key, draw.value),
-            44 => index.abandon(draw.seat),
-            45 => index.format(fan),
-            _ => index.step(draw.seat),
-        });
+        let _ = match draw.kind() {
+            0..=11 => self.begin_find(draw),
+            12..=43 => self.begin_put(draw),
+            44 => self.call(|index| index.abandon(draw.seat())),
+            45 => self.call(|index| index.format(fan)),
+            _ => self.step(draw.seat()),
+        };
     }
 
     /// One call, drawn, and then steps of its seat.
     fn burst(&mut self) {
         let fan = self.fan;
         let draw = self.draw();
-        let _ = self.call(|index| match draw.call {
-            0..=15 => index.abandon(draw.seat),
-            16..=17 => index.format(fan),
-            18..=199 => index.begin_find(draw.seat, draw.key),
-            _ => index.begin_put(draw.seat, draw.key, draw.value),
-        });
-        self.drive(draw.seat, draw.most);
+        let _ = match draw.kind() {
+            0..=15 => self.call(|index| index.abandon(draw.seat())),
+            16..=17 => self.call(|index| index.format(fan)),
+            18..=199 => self.begin_find(draw),
+            _ => self.begin_put(draw),
+        };
+        self.drive(draw.seat(), draw.most());
     }
 
     /// A put from begin to end on seat 0.
