@@ -83,6 +83,8 @@ impl<A: Memory, B: Memory> Memory for Joined<A, B> {
         }
     }
 
+    // a hint for memories that are joined again
+    #[inline]
     #[tactic(auto, using(crate::proofs::Joining::write_first_row, crate::proofs::Joining::write_second_answer, crate::proofs::Joining::write_second_row))]
     fn write(&mut self, cell: u64, word: u64) -> Result<(), Fault> {
         let place = self.place(cell)?;
