@@ -1,10 +1,10 @@
 -- A label by its eight bytes.
-use Rattle.std.proofs.Common.{◌≡◌, ℕ, zero, suc, ◌+◌, ◌^◌, ◌<◌, Bool, true, false, List, [], ◌∷◌, length, get_or, ◌≢◌, ◌∙◌, sym, inl, inr, refl, arith, add-one, eqb-true, nat_lt, lt-ltb, le-ltb, eq-eqb, ne_eqb, ap, cond, lit<, ◌*◌, ◌==◌}
-use Rattle.std.specs.List.{IsAllAdjacentAnswer}
+use Rattle.std.proofs.Common.{◌≡◌, ℕ, zero, suc, ◌+◌, ◌^◌, ◌/◌, ◌<◌, true, List, [], ◌∷◌, length, get_or, ◌≢◌, ◌⊎◌, ◌∙◌, sym, inl, inr, refl, arith, eqb-true, nat_lt, lt-ltb, le-ltb, eq-eqb, ne_eqb, ap, lit<, ◌*◌, ◌==◌}
 use Rattle.std.specs.Int.{w64, to_le_bytes, swap_bytes}
 use Rattle.std.proofs.lemmas.Bool.{cases_Bool, cases_order}
 use Rattle.std.proofs.lemmas.Bool.Decides.{nat_tests}
-use native.Mathlib.Nat.{div-div-eq-div-mul, pow-suc, div-lt_iff_lt-mul, mul-le-mul_right, suc-mul}
+use Rattle.std.proofs.lemmas.Nat.{shr-shr}
+use native.Mathlib.Nat.{div-one, div-div-eq-div-mul, pow-suc, div-lt_iff_lt-mul, mul-le-mul_right, suc-mul}
 use Rattle.order.specs.Lexical.{lexical_rest, lexical_less}
 use Rattle.order.specs.Label.{letter, rest, spells, leads, label_key, label_before}
 
@@ -68,65 +68,31 @@ get_or_letters (suc n) a (suc k) d h = get_or_letters n (rest a) k d (omega arit
 shorter : (n a : ℕ) → a < 256 ^ suc n → rest a < 256 ^ n
 shorter n a h = let k : a < 256 ^ n * 256 = rw pow-suc at h in (div-lt_iff_lt-mul {k = 256} {x = a} {y = 256 ^ n} (lit< tt)).1 k
 
-at_zero : (k : ℕ) → at k 0 ≡ 0
+-- a number below 256 ^ n is n letters, or one of them is 0
+full : (n a : ℕ) → a < 256 ^ n → (spells n a ≡ true) ⊎ ((k : ℕ) × (k < n) × (at k a ≡ 0))
 unfolding at
-at_zero zero = refl
-at_zero (suc k) = at_zero k
-
--- a zero byte after which no letter stands is followed by zeros alone
-nothing : (n a : ℕ) → a < 256 ^ n → letter a ≡ 0 → ((k : ℕ) → suc k < n → at k a ≡ 0 → at (suc k) a ≡ 0) → a ≡ 0
-unfolding at
-nothing zero a h e f = omega arith
-nothing (suc zero) a h e f = omega arith
-nothing (suc (suc n)) a h e f =
-    let r : rest a ≡ 0 = nothing (suc n) (rest a) (shorter (suc n) a h) (f 0 (omega arith) e) (λ k l. f (suc k) (omega arith)) in
-    omega arith
-
-spells_kept : (n a : ℕ) → a < 256 ^ n → ((k : ℕ) → suc k < n → at k a ≡ 0 → at (suc k) a ≡ 0) → spells n a ≡ true
-unfolding at
-spells_kept zero a h f = eq-eqb a 0 (omega arith)
-spells_kept (suc n) a h f =
+full zero a h = inl (eq-eqb a 0 (omega arith))
+full (suc n) a h =
     elim (cases_Bool (letter a == 0)) [
-      | inl e ↦ rw e (eq-eqb a 0 (nothing (suc n) a h (eqb-true (letter a) 0 e) f))
-      | inr e ↦ rw e (spells_kept n (rest a) (shorter n a h) (λ k l. f (suc k) (omega arith)))
+      | inl e ↦ inr (0, omega arith, eqb-true (letter a) 0 e)
+      | inr e ↦ elim (full n (rest a) (shorter n a h)) [ inl s ↦ inl (rw e s) | inr z ↦ inr (suc z.0, omega arith, z.2) ]
     ]
 
-spells_broken : (n a k : ℕ) → suc k < n → at k a ≡ 0 → at (suc k) a ≢ 0 → spells n a ≡ false
+-- only zeros follow the first zero letter
+ended : (n a k : ℕ) → k < n → at k a ≡ 0 → ((j : ℕ) → j < k → at j a ≢ 0) → spells n a ≡ (a / 2 ^ (8 * k) == 0)
 unfolding at
-spells_broken zero a k h e f = absurd (omega arith)
-spells_broken (suc n) a zero h e f = rw (eq-eqb (letter a) 0 e) (ne_eqb a 0 (λ z. f (omega (arith, z))))
-spells_broken (suc n) a (suc k) h e f =
-    elim (cases_Bool (letter a == 0)) [
-      | inl z ↦ rw z (ne_eqb a 0 (λ i. f (ap (at (suc (suc k))) i ∙ at_zero (suc (suc k)))))
-      | inr z ↦ rw z (spells_broken n (rest a) k (omega arith) e f)
-    ]
-
--- no letter stands after a zero byte
-abbrev pub follows : ℕ → ℕ → Bool
-follows x y = cond (x == 0) (y == 0) true
-
-follows_true : (x y : ℕ) → true ≡ follows x y → x ≡ 0 → y ≡ 0
-follows_true x y e z = let k = rw (eq-eqb x 0 z) at e in eqb-true y 0 (sym k)
-
-follows_false : (x y : ℕ) → false ≡ follows x y → (x ≡ 0) × (y ≢ 0)
-follows_false x y e =
-    elim (cases_Bool (x == 0)) [
-      | inl z ↦ (eqb-true x 0 z, λ i. (let k = rw (z, eq-eqb y 0 i) at e in cc))
-      | inr z ↦ (let k = rw z at e in absurd (cc))
-    ]
+ended zero a k h e f = absurd (omega arith)
+ended (suc n) a zero h e f = rw (eq-eqb (letter a) 0 e) (ap (λ q. q == 0) (sym (div-one a)))
+ended (suc n) a (suc k) h e f =
+    let i : 8 * suc k ≡ 8 + 8 * k = omega arith in
+    rw (ne_eqb (letter a) 0 (f 0 (omega arith)), i, ← shr-shr a 8 (8 * k)) (ended n (rest a) k (omega arith) e (λ j l. f (suc j) (omega arith)))
 
 byte_at : (a : ℕ) (xs : List ℕ) → xs ≡ to_le_bytes w64 a → (k : ℕ) → k < 8 → get_or xs k 0 ≡ at k a
 byte_at a xs e k h = ap (λ r. get_or r k 0) (e ∙ letters_bytes a) ∙ get_or_letters 8 a k 0 h
 
-pub spells_bytes : (a : ℕ) (xs : List ℕ) (r : Bool) → a < 2 ^ 64 → xs ≡ to_le_bytes w64 a → IsAllAdjacentAnswer (λ x y b. b ≡ follows x y) xs r → r ≡ label_key a
-spells_bytes a xs true h e f =
-    let n : length xs ≡ 8 = ap length e in
-    sym (spells_kept 8 a h (λ k l z.
-    let next = follows_true _ _ (f k 0 (omega arith)) (byte_at a xs e k (omega arith) ∙ z) in
-    rw add-one at (sym (byte_at a xs e (k + 1) (omega arith)) ∙ next)))
-spells_bytes a xs false h e f =
-    let n : length xs ≡ 8 = ap length e in
-    let k = f.0 in
-    let l : k + 1 < length xs = f.1 in
-    let both = follows_false _ _ (f.2 0) in
-    sym (spells_broken 8 a k (omega arith) (sym (byte_at a xs e k (omega arith)) ∙ both.0) (λ z. both.1 (byte_at a xs e (k + 1) (omega arith) ∙ rw add-one z)))
+-- the length comes first, since `grind` takes a lemma at the first call of its conclusion
+pub full_bytes : (a : ℕ) (xs : List ℕ) → a < 2 ^ 64 → xs ≡ to_le_bytes w64 a → (length xs ≡ 8) × ((label_key a ≡ true) ⊎ ((k : ℕ) × (k < 8) × (get_or xs k 0 ≡ 0)))
+full_bytes a xs h e = (ap length e, elim (full 8 a h) [ inl s ↦ inl s | inr z ↦ inr (z.0, z.1, byte_at a xs e z.0 z.1 ∙ z.2) ])
+
+pub ended_bytes : (a k : ℕ) (xs : List ℕ) → xs ≡ to_le_bytes w64 a → k < 8 → get_or xs k 0 ≡ 0 → ((j : ℕ) → j < k → get_or xs j 0 ≢ 0) → (a / 2 ^ (8 * k) == 0) ≡ label_key a
+ended_bytes a k xs e h z f = sym (ended 8 a k h (sym (byte_at a xs e k h) ∙ z) (λ j l i. f j l (byte_at a xs e j (omega arith) ∙ i)))

@@ -15,10 +15,14 @@ impl Order for LabelOrder {
 
     ghost ordered = { λ _. label_ordered };
 
+    #[tactic(auto, using(crate::proofs::Labels::full_bytes))]
     fn is_key(&self, word: u64) -> bool {
-        // no letter stands after a zero byte
-        word.to_le_bytes()
-            .is_sorted_by(|letter, next| *letter != 0 || *next == 0)
+        match word.to_le_bytes().iter().position(|letter| *letter == 0) {
+            // eight letters
+            None => true,
+            // only zeros follow a zero byte
+            Some(end) => word >> (8 * end) == 0,
+        }
     }
 
     #[tactic(auto, using(crate::proofs::Labels::leads_swapped))]
