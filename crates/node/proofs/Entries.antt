@@ -6,7 +6,7 @@ use Rattle.rules.specs.declared.seat.Entry.{Entry}
 use Rattle.rules.specs.Nodes.{entry, paired, entries, size}
 use Rattle.node.specs.Values.{pair}
 
-paired_long : (ws : List ℕ) (n : ℕ) → 2 * n ≤ length ws → n ≤ length (paired ws)
+pub paired_long : (ws : List ℕ) (n : ℕ) → 2 * n ≤ length ws → n ≤ length (paired ws)
 paired_long ws zero h = omega arith
 paired_long [] (suc n) h = absurd (omega arith)
 paired_long (k ∷ []) (suc n) h = absurd (omega arith)
