@@ -89,7 +89,7 @@ module _ (l r l' r' : List ℕ) (cell word : ℕ) (n : length (front l') ≡ len
       let e = parted (front l') (front r') (front l) (front r) n (s ∙ stored_past (front l ++ front r) cell word (omega (arith, length_front (front l ++ front r)))) in
       (whole l' l e.0 dl ∙ sym (stored_past l cell word h), whole r' r e.1 dr)
 
-  stored_parts : (l' ≡ stored l cell word) × (r' ≡ stored_second l r cell word)
+  pub stored_parts : (l' ≡ stored l cell word) × (r' ≡ stored_second l r cell word)
   stored_parts =
       let P : List ℕ → Type 0 = λ x. (l' ≡ stored l cell word) × (r' ≡ x) in
       cond_both (ltb cell (length (front l))) r (cond (ltb cell 65536) (stored r (cell - length (front l)) word) r) P

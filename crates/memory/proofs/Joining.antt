@@ -15,7 +15,7 @@ pub length_both : (a b : List ℕ) → length (front (a ++ b)) ≡ min 65536 (le
 length_both a b = simp (length_front, length-append) refl
 
 -- a cell of both that is not the first one's is one of the second's
-in_second : (a b : List ℕ) (cell : ℕ) → cell < length (front (a ++ b)) → length a ≤ cell → cell - length a < length b
+pub in_second : (a b : List ℕ) (cell : ℕ) → cell < length (front (a ++ b)) → length a ≤ cell → cell - length a < length b
 in_second a b cell h l = omega (arith, length_both a b)
 
 pair_same : {k k' : ℕ} {r r' : List ℕ} {o o' p p' : Outside} → k' ≡ k → r' ≡ r → o' ≡ o → p' ≡ p → pair k' r' o' p' ≡ pair k r o p

@@ -27,7 +27,7 @@ run_on kind (suc n) seat so_far st =
     cond (stops (step st seat).0) (next_line kind so_far (step st seat).0, (step st seat).1) (run_on kind n seat (next_line kind so_far (step st seat).0) (step st seat).1)
 
 -- a seat goes on after an accepted step
-goes_on_counted : (a : Result Report Refusal) (n : ℕ) → stops a ≡ false → counted n a ≡ n + 1
+pub goes_on_counted : (a : Result Report Refusal) (n : ℕ) → stops a ≡ false → counted n a ≡ n + 1
 goes_on_counted a n = grind arith
 
 -- a loop of `count` steps has made `made`, all accepted, and so far the line `so_far`; its next answers `a`, leaves `next` and makes the line `new`
