@@ -60,11 +60,25 @@ impl<O: Order + Copy> Ascending<O> {
         self.over(rt, roomy, small);
     }
 
+    /// The examples of many nodes, each over new bytes, and over words as the one before left them.
+    fn over_new_bytes(self, rt: &impl Abort, width: Width) {
+        let mut words = [0u64; 50];
+        let mut bytes = [0u8; 880];
+        let both = Joined::new(WordMemory::new(&mut words), cells(&mut bytes, 110, width));
+        let (words, _) = self.grows(rt, both).into_parts();
+        let mut bytes = [0u8; 880];
+        let both = Joined::new(words, cells(&mut bytes, 110, width));
+        let (words, _) = self.abandons(rt, both).into_parts();
+        let mut bytes = [0u8; 880];
+        self.turns_back(rt, Joined::new(words, cells(&mut bytes, 110, width)));
+    }
+
     fn everywhere(self, rt: &impl Abort) {
         self.over_words(rt);
         for width in [Width::Two, Width::Four, Width::Eight] {
             self.over_bytes(rt, width);
             self.over_both(rt, width);
+            self.over_new_bytes(rt, width);
         }
     }
 }
