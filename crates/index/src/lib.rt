@@ -1,5 +1,5 @@
 #![tactic(auto)]
-//! A B+-table index that eight seats work on, one memory access to a step.
+//! A B+-tree index that eight seats work on, one memory access to a step.
 
 mod access;
 mod fan;
