@@ -101,7 +101,7 @@ impl<M: Memory, O: Order> Trial<M, O> {
     }
 
     /// Begins the find of a round.
-    // keys and values are worked out where a round needs them, and few do: worked out in each draw, they take a quarter of a run
+    // keys and values are worked out where a round needs them: in `mixed` few do
     fn begin_find(&mut self, draw: Draw) -> bool {
         let key = self.space.key_of(draw.key);
         self.call(|index| index.begin_find(draw.seat(), key))
